@@ -1,0 +1,78 @@
+-- The histogram of one grade: two halves, what a delivery and a clock do to them, and the sum that a question gets. Assumes nothing.
+use mathlib.Core.Bool.{Bool, true, false, cond, _&&_}
+use mathlib.Core.List.{List, [], _∷_}
+use Prim.Native.Nat.{ℕ, zero, suc, _+_, _-_, _/_, _%_, _^_}
+use lib.Dec.{leb, ltb, eqb}
+use Rattle.shape.specs.declared.Shape.{Shape}
+use Rattle.model.specs.Level.{Bucket, Level, level, insert, emptyLevel}
+
+pub record Half : Type 0 where  -- document 01's half: the total and the levels 0 to the last of one interval
+  pub total : ℕ
+  pub levels : List Level
+
+pub record Block : Type 0 where  -- the halves that serve the intervals of even and of odd number
+  pub even : Half
+  pub odd : Half
+
+abbrev pub upFrom : {A : Type 0} → (ℕ → A) → ℕ → ℕ → List A  -- f at i, i + 1 and so on, c values
+upFrom f i zero = []
+upFrom f i (suc c) = f i ∷ upFrom f (suc i) c
+
+unfoldable pub emptyHalf : Shape → Half
+emptyHalf s = record { total = 0; levels = upFrom (emptyLevel (s .k)) 0 (suc (s .last)) }
+
+abbrev pub interval : Shape → ℕ → ℕ  -- the interval in which tick t lies
+interval s t = t / 2 ^ s .k
+
+abbrev pub offsetOf : Shape → ℕ → ℕ  -- its offset there
+offsetOf s t = t % 2 ^ s .k
+
+abbrev pub opening : ℕ → ℕ → ℕ  -- the first stamp of a window; a difference of naturals is 0 where the window exceeds the clock
+opening clock window = clock - window
+
+abbrev pub covers : ℕ → ℕ → ℕ → Bool  -- a window's stamps run from its opening to the clock, both included
+covers clock window stamp = leb (opening clock window) stamp && leb stamp clock
+
+abbrev pub late : Shape → ℕ → ℕ → Bool  -- document 01's condition 9
+late s clock stamp = ltb (stamp + 2 ^ s .k) clock
+
+abbrev pub halfOf : ℕ → Block → Half  -- the half that serves interval j
+halfOf j b = cond (eqb (j % 2) 0) (b .even) (b .odd)
+
+abbrev pub withHalf : ℕ → Half → Block → Block
+withHalf j h b = cond (eqb (j % 2) 0) (record { even = h; odd = b .odd }) (record { even = b .even; odd = h })
+
+abbrev pub insertAll : ℕ → ℕ → ℕ → ℕ → List Level → List Level  -- v decilitres at offset x into level i and each one after it
+insertAll n i x v [] = []
+insertAll n i x v (l ∷ ls) = insert n i x v l ∷ insertAll n (suc i) x v ls
+
+unfoldable pub deliverHalf : Shape → ℕ → ℕ → Half → Half
+deliverHalf s x v h = record { total = h .total + v; levels = insertAll (s .n) 0 x v (h .levels) }
+
+unfoldable pub deliver : Shape → ℕ → ℕ → Block → Block  -- a delivery goes into the half of its stamp's interval
+deliver s stamp v b = let j = interval s stamp in withHalf j (deliverHalf s (offsetOf s stamp) v (halfOf j b)) b
+
+-- whether the half that serves interval j is emptied as the clock goes from one interval to another: none within an interval,
+-- that of the next interval on entering it, both where one or more are skipped
+abbrev pub empties : ℕ → ℕ → ℕ → Bool
+empties from to j = cond (eqb to from) false (cond (eqb to (from + 1)) (eqb (j % 2) (to % 2)) true)
+
+unfoldable pub advance : Shape → ℕ → ℕ → Block → Block
+advance s old new b =
+    let gone = empties (interval s old) (interval s new) in
+    record { even = cond (gone 0) (emptyHalf s) (b .even); odd = cond (gone 1) (emptyHalf s) (b .odd) }
+
+abbrev pub sumFrom : ℕ → List Bucket → ℕ  -- the weights of the buckets whose offset is at least a
+sumFrom a [] = 0
+sumFrom a (b ∷ bs) = cond (leb a (b .offset)) (b .weight) 0 + sumFrom a bs
+
+abbrev pub serving : ℕ → List Level → Level  -- the finest level with F at most a: the first, since level 0 is the finest
+serving a [] = level 0 []
+serving a (l ∷ ls) = cond (leb (l .first) a) l (serving a ls)
+
+unfoldable pub answer : Shape → ℕ → ℕ → Block → ℕ  -- the sum of a window that opens at stamp `start`
+answer s clock start b =
+    let from = interval s start in
+    let now = interval s clock in
+    let sum = sumFrom (offsetOf s start) (serving (offsetOf s start) (halfOf from b .levels) .buckets) in
+    cond (eqb from now) sum (sum + halfOf now b .total)

@@ -1,0 +1,55 @@
+-- The ledger of demand 3, which adds exactly. It is fed each call and how many words that call is lent, nothing else. Assumes nothing.
+use mathlib.Core.Bool.{Bool, true, cond, _&&_}
+use mathlib.Core.List.{List, [], _∷_}
+use Prim.Native.Nat.{ℕ, _+_}
+use lib.Dec.{eqb}
+use Rattle.shape.specs.declared.Shape.{Shape}
+use Rattle.shape.specs.Limits.{accepted, shape}
+use Rattle.model.specs.declared.Call.{Call}
+use Rattle.model.specs.declared.Call.the-variants.{Make, Clock, Delivery, Query}
+use Rattle.model.specs.Block.{covers, interval}
+use Rattle.model.specs.Calls.{View, refusals, Outcome, outcome, settle}
+
+pub record Entry : Type 0 where  -- an accepted delivery with all its numbers
+  pub grade : ℕ
+  pub stamp : ℕ
+  pub volume : ℕ
+
+pub record Ledger : Type 0 where  -- the latest entry stands first
+  pub shape : Shape
+  pub clock : ℕ
+  pub entries : List Entry
+
+abbrev pub ledger : Shape → ℕ → List Entry → Ledger
+ledger s clock entries = record { shape = s; clock = clock; entries = entries }
+
+abbrev pub volumeOf : (Entry → Bool) → List Entry → ℕ  -- the volumes of the entries that satisfy a test
+volumeOf p [] = 0
+volumeOf p (e ∷ es) = cond (p e) (e .volume) 0 + volumeOf p es
+
+abbrev pub ofInterval : Shape → ℕ → ℕ → Entry → Bool  -- an entry of this grade in interval j
+ofInterval s grade j e = eqb (e .grade) grade && eqb (interval s (e .stamp)) j
+
+abbrev pub ofWindow : ℕ → ℕ → ℕ → Entry → Bool  -- an entry of this grade whose stamp the window covers
+ofWindow clock grade window e = eqb (e .grade) grade && covers clock window (e .stamp)
+
+unfoldable pub ledgerView : ℕ → Ledger → View  -- 7 and 11 never hold; a half's total is the sum of the ledger's own entries
+ledgerView lent l = record {
+  lent = lent;
+  headSound = true;
+  shape = l .shape;
+  clock = l .clock;
+  blockSound = λ grade. true;
+  total = λ grade stamp. volumeOf (ofInterval (l .shape) grade (interval (l .shape) stamp)) (l .entries);
+}
+
+abbrev pub note : Ledger → Call → Outcome Ledger  -- an accepted call
+note l (Make k n m g) = outcome (accepted []) (ledger (shape k n m g) 0 [])
+note l (Clock clock) = outcome (accepted []) (ledger (l .shape) clock (l .entries))
+note l (Delivery grade stamp volume) =
+    let entry : Entry = record { grade = grade; stamp = stamp; volume = volume } in
+    outcome (accepted []) (ledger (l .shape) (l .clock) (entry ∷ l .entries))
+note l (Query grade window) = outcome (accepted (volumeOf (ofWindow (l .clock) grade window) (l .entries) ∷ [])) l
+
+unfoldable pub enter : ℕ → Ledger → Call → Outcome Ledger  -- a call that is lent so many words
+enter lent l call = settle (refusals (ledgerView lent l) call) l (note l call)

@@ -1,0 +1,9 @@
+pub mod Level
+pub mod Block
+pub mod Words
+pub mod Sound
+pub mod Reply
+pub mod Calls
+pub mod Ledger
+pub mod Claim
+pub mod Table

@@ -1,0 +1,27 @@
+-- Document 01's number and values for each case of the code's answer. Assumes nothing.
+use mathlib.Core.List.{List, [], _∷_}
+use Prim.Native.Nat.{ℕ}
+use Rattle.shape.specs.Limits.{Reply, refused, accepted}
+use Rattle.model.specs.declared.Refusal.{Refusal}
+use Rattle.model.specs.declared.Refusal.the-variants.{Shape, Length, Grade, Volume, Window, Limit, Head, Ahead, Late, Back, Block, Full}
+use Rattle.model.specs.declared.Answer.{Answer}
+use Rattle.model.specs.declared.Answer.the-variants.{Done, Sum, Refused}
+
+abbrev pub numberOf : Refusal → ℕ  -- document 01's number of a refusal
+numberOf Shape = 1
+numberOf Length = 2
+numberOf Grade = 3
+numberOf Volume = 4
+numberOf Window = 5
+numberOf Limit = 6
+numberOf Head = 7
+numberOf Ahead = 8
+numberOf Late = 9
+numberOf Back = 10
+numberOf Block = 11
+numberOf Full = 12
+
+unfoldable pub reply : Answer → Reply  -- the number, 0 where accepted, and the sum where there is one
+reply Done = accepted []
+reply (Sum sum) = accepted (sum ∷ [])
+reply (Refused r) = refused (numberOf r)

@@ -1,0 +1,151 @@
+-- Document 01's examples P1 to P10, as one table that the definitions meet. Assumes nothing.
+use mathlib.Core.Path.{_≡_, refl}
+use mathlib.Core.List.{List, [], _∷_, _++_}
+use Prim.Native.Nat.{ℕ}
+use lib.ListN.{getD, replicate}
+use Rattle.shape.specs.Limits.{Reply, accepted, refused, within, shape}
+use Rattle.model.specs.declared.Call.{Call}
+use Rattle.model.specs.declared.Call.the-variants.{Make, Clock, Delivery, Query}
+use Rattle.shape.specs.Layout.{bookWords, blockWords, blockStart, levelStart}
+use Rattle.model.specs.Level.{Level, level, bucket, unit, insert}
+use Rattle.model.specs.Block.{opening, offsetOf, interval, halfOf, serving, emptyHalf, deliverHalf, deliver, advance, answer}
+use Rattle.model.specs.Words.{shapeOf, clockOf, decodeLevel, decodeHalf, decodeBlock, encodeLevel, encodeBlock}
+use Rattle.model.specs.Sound.{soundHead, soundLevel, soundHalf, soundBlock}
+use Rattle.model.specs.Calls.{blockAt, refusals, bookView, made, clocked, delivered, perform}
+use Rattle.model.specs.Ledger.{Ledger, ledger, ledgerView, enter}
+use Rattle.model.specs.Claim.{Each}
+
+-- what an example says of grade 0 after its calls
+pub data Fact : Type 0 where
+  -- level i of the even half
+  levelIs : ℕ → Level → Fact
+  -- what the next call is answered, by the book and by the ledger
+  answers : Call → Reply → Fact
+  exactly : Call → Reply → Fact
+  -- the level that a window is answered from
+  servedFrom : ℕ → ℕ → Fact
+
+abbrev pub Holds : List ℕ → Ledger → Fact → Type 0
+Holds ws l (levelIs i it) = getD (blockAt ws 0 .even .levels) i (level 0 []) ≡ it
+Holds ws l (answers call reply) = perform ws call .reply ≡ reply
+Holds ws l (exactly call reply) = enter 90 l call .reply ≡ reply
+Holds ws l (servedFrom window i) =
+    let s = shapeOf ws in
+    let start = opening (clockOf ws) window in
+    let levels = halfOf (interval s start) (blockAt ws 0) .levels in
+    serving (offsetOf s start) levels ≡ getD levels i (level 0 [])
+
+abbrev pub words : List ℕ → List Call → List ℕ
+words ws [] = ws
+words ws (call ∷ calls) = words (perform ws call .left) calls
+
+abbrev pub entered : Ledger → List Call → Ledger
+entered l [] = l
+entered l (call ∷ calls) = entered (enter 90 l call .left) calls
+
+-- calls on 90 words, what shape 2, 2, 4, 1 needs, all zero at first; and what then holds
+pub record Example : Type 0 where
+  pub start : List Call
+  pub calls : List Call
+  pub facts : List Fact
+
+abbrev pub Meets : Example → Type 0
+Meets e =
+    let calls = e .start ++ e .calls in
+    Each (Holds (words (replicate 90 0) calls) (entered (ledger (shape 2 2 4 1) 0 []) calls)) (e .facts)
+
+-- shape 2, 2, 4, 1 with the clock at 3
+abbrev pub start : List Call
+start = Make 2 2 4 1 ∷ Clock 3 ∷ []
+
+-- one delivery of grade 0
+abbrev pub d : ℕ → ℕ → Call
+d stamp volume = Delivery 0 stamp volume
+
+-- the calls up to each example
+abbrev pub p₁ : List Call
+p₁ = d 0 3 ∷ []
+
+abbrev pub p₂ : List Call
+p₂ = p₁ ++ d 3 1 ∷ []
+
+abbrev pub p₃ : List Call
+p₃ = p₂ ++ d 1 1 ∷ []
+
+abbrev pub p₆ : List Call
+p₆ = p₃ ++ d 1 1 ∷ []
+
+abbrev pub p₇ : List Call
+p₇ = p₆ ++ d 2 2 ∷ []
+
+abbrev pub example : List Call → List Fact → Example
+example calls facts = record { start = start; calls = calls; facts = facts }
+
+abbrev pub table : List Example
+table =
+    -- P1
+    example p₁ (levelIs 1 (level 0 (bucket 0 4 3 ∷ [])) ∷ [])
+    -- P2
+    ∷ example p₂ (levelIs 1 (level 0 (bucket 0 2 2 ∷ bucket 2 2 2 ∷ [])) ∷ [])
+    -- P3, P4 and P5
+    ∷ example p₃
+    (levelIs 0 (level 1 (bucket 1 1 1 ∷ bucket 3 1 1 ∷ []))
+    ∷ levelIs 1 (level 0 (bucket 0 2 3 ∷ bucket 2 2 2 ∷ []))
+    ∷ answers (Query 0 2) (accepted (2 ∷ []))
+    ∷ answers (Query 0 3) (accepted (5 ∷ []))
+    ∷ servedFrom 3 1
+    ∷ [])
+    -- P6
+    ∷ example p₆
+    (levelIs 1 (level 1 (bucket 1 1 2 ∷ bucket 2 2 2 ∷ []))
+    ∷ answers (Query 0 3) (accepted (6 ∷ []))
+    ∷ servedFrom 3 2
+    ∷ [])
+    -- P7, with what the ledger has, and P9 at each stamp
+    ∷ example p₇
+    (levelIs 2 (level 0 (bucket 0 2 4 ∷ bucket 2 2 4 ∷ []))
+    ∷ answers (Query 0 2) (accepted (4 ∷ []))
+    ∷ exactly (Query 0 2) (accepted (5 ∷ []))
+    ∷ answers (d 0 8) (accepted [])
+    ∷ answers (d 1 8) (accepted [])
+    ∷ answers (d 2 8) (accepted [])
+    ∷ answers (d 3 8) (accepted [])
+    ∷ answers (d 0 9) (refused 12)
+    ∷ answers (d 1 9) (refused 12)
+    ∷ answers (d 2 9) (refused 12)
+    ∷ answers (d 3 9) (refused 12)
+    ∷ [])
+    -- P8
+    ∷ example (p₂ ++ d 0 5 ∷ []) (levelIs 1 (level 1 (bucket 1 1 2 ∷ bucket 2 2 2 ∷ [])) ∷ [])
+    -- P10
+    ∷ example (p₇ ++ Clock 8 ∷ [])
+    (answers (d 4 1) (accepted [])
+    ∷ answers (d 3 1) (refused 9)
+    ∷ answers (d 9 1) (refused 8)
+    ∷ [])
+    ∷ []
+
+pub table-holds : Each Meets table
+unfolding perform refusals bookView made clocked delivered soundHead soundBlock soundHalf soundLevel within encodeBlock encodeLevel decodeBlock decodeHalf decodeLevel emptyHalf deliver deliverHalf advance answer unit insert blockWords bookWords blockStart levelStart enter ledgerView
+table-holds = (
+  (refl, tt),
+  (
+    (refl, tt),
+    (
+      (refl, (refl, (refl, (refl, (refl, tt))))),
+      (
+        (refl, (refl, (refl, tt))),
+        (
+          (refl, (refl, (refl, (refl, (refl, (refl, (refl, (refl, (refl, (refl, (refl, tt))))))))))),
+          (
+            (refl, tt),
+            (
+              (refl, (refl, (refl, tt))),
+              tt,
+            ),
+          ),
+        ),
+      ),
+    ),
+  ),
+)

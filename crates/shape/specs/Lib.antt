@@ -1,0 +1,4 @@
+pub mod Limits
+pub mod LimitsLaws
+pub mod Layout
+pub mod LayoutLaws

@@ -1,0 +1,50 @@
+-- The limits of a shape and of the other numbers of a call, and what the constructor of a shape answers. Assumes nothing.
+use mathlib.Core.Bool.{Bool, cond, _&&_}
+use mathlib.Core.List.{List, [], _∷_}
+use Prim.Native.Nat.{ℕ}
+use lib.Dec.{leb}
+use Rattle.shape.specs.declared.Shape.{Shape}
+use Rattle.shape.specs.declared.Checked.{Checked}
+use Rattle.shape.specs.declared.Checked.the-variants.{Within, Outside}
+
+-- an answer as document 01 puts it: the number of the refusal, 0 where accepted, and the values that come with it
+pub record Reply : Type 0 where
+  pub number : ℕ
+  pub values : List ℕ
+
+-- refused under a number
+abbrev pub refused : ℕ → Reply
+refused number = record { number = number; values = [] }
+
+-- accepted, with these values
+abbrev pub accepted : List ℕ → Reply
+accepted values = record { number = 0; values = values }
+
+-- x lies between two limits, both included
+abbrev pub between : ℕ → ℕ → ℕ → Bool
+between low x high = leb low x && leb x high
+
+-- k, n, M and g lie within the limits of a shape
+unfoldable pub within : ℕ → ℕ → ℕ → ℕ → Bool
+within k n m g = between 2 k 20 && (between 2 n 1024 && (between 1 m 24 && between 1 g 8))
+
+-- the coarsest level that a book of this n and M keeps
+abbrev pub lastLevel : ℕ → ℕ → ℕ
+lastLevel n m = m
+
+-- the shape of these numbers, whatever they are
+abbrev pub shape : ℕ → ℕ → ℕ → ℕ → Shape
+shape k n m g = record { k = k; n = n; m = m; g = g; last = lastLevel n m }
+
+-- a shape as values
+abbrev pub valuesOf : Shape → List ℕ
+valuesOf s = s .k ∷ s .n ∷ s .m ∷ s .g ∷ s .last ∷ []
+
+-- what the constructor of a shape must answer: the shape, or refusal 1
+unfoldable pub checked : ℕ → ℕ → ℕ → ℕ → Reply
+checked k n m g = cond (within k n m g) (accepted (valuesOf (shape k n m g))) (refused 1)
+
+-- the number and the values of each case of the constructor's answer
+unfoldable pub reply : Checked → Reply
+reply (Within s) = accepted (valuesOf s)
+reply Outside = refused 1

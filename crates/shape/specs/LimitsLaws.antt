@@ -1,0 +1,44 @@
+-- What passing the tests of the limits tells. Assumes nothing.
+use mathlib.Core.Bool.{Bool, true, false, _&&_}
+use mathlib.Core.Path.{_≡_}
+use Prim.Native.Nat.{ℕ, _≤_}
+use native.Mathlib.Omega.{arith}
+use lib.Dec.{leb}
+use borrow.Author.Tests.{leb-true}
+use Rattle.shape.specs.Limits.{between, within}
+
+-- both parts of a conjunction that is true
+pub both : {a b : Bool} → (a && b) ≡ true → (a ≡ true) × (b ≡ true)
+both {a} {b} e = go a b e
+  where
+    go : (a b : Bool) → (a && b) ≡ true → (a ≡ true) × (b ≡ true)
+    go true b e = (cc, e)
+    go false b e = (e, cc)
+
+pub between-limits : (low x high : ℕ) → between low x high ≡ true → (low ≤ x) × (x ≤ high)
+between-limits low x high e = let p = both e in (leb-true low x (p .0), leb-true x high (p .1))
+
+-- the limits of a shape, as facts
+pub record Limits (k n m g : ℕ) : Type 0 where
+  pub low-k : 2 ≤ k
+  pub high-k : k ≤ 20
+  pub low-n : 2 ≤ n
+  pub high-n : n ≤ 1024
+  pub low-m : 1 ≤ m
+  pub high-m : m ≤ 24
+  pub low-g : 1 ≤ g
+  pub high-g : g ≤ 8
+
+pub within-limits : (k n m g : ℕ) → within k n m g ≡ true → Limits k n m g
+unfolding within
+within-limits k n m g e =
+    let k-rest = both e in
+    let n-rest = both (k-rest .1) in
+    let m-g = both (n-rest .1) in
+    omega (
+      arith,
+      between-limits 2 k 20 (k-rest .0),
+      between-limits 2 n 1024 (n-rest .0),
+      between-limits 1 m 24 (m-g .0),
+      between-limits 1 g 8 (m-g .1),
+    )

@@ -1,0 +1,130 @@
+//! The exact ledger (document 01, "The ledger"). It is fed the calls and the number of words that
+//! each one borrows, never a word of a book, so that refusals 7 and 11 are unknown to it.
+
+use crate::calls::{Answer, Call};
+use crate::refusal::{self, when};
+use crate::shape::Shape;
+
+/// An accepted delivery.
+#[derive(Clone, Copy, Debug, PartialEq, Eq)]
+pub struct Entry {
+    /// Grade.
+    pub grade: u32,
+    /// Tick of the delivery.
+    pub stamp: u32,
+    /// Decilitres.
+    pub volume: u32,
+}
+
+/// A shape, a clock and every delivery accepted since the make.
+#[derive(Clone, Debug, PartialEq, Eq)]
+pub struct Ledger {
+    shape: Shape,
+    clock: u32,
+    entries: Vec<Entry>,
+}
+
+impl Ledger {
+    /// The ledger that an accepted make of this shape leaves.
+    pub fn new(shape: Shape) -> Ledger {
+        Ledger {
+            shape,
+            clock: 0,
+            entries: Vec::new(),
+        }
+    }
+
+    /// The shape of the last accepted make.
+    pub fn shape(&self) -> Shape {
+        self.shape
+    }
+
+    /// The clock.
+    pub fn clock(&self) -> u32 {
+        self.clock
+    }
+
+    /// The deliveries accepted since the last accepted make.
+    pub fn entries(&self) -> &[Entry] {
+        &self.entries
+    }
+
+    /// One call that borrows so many words; the error is the refusal number.
+    pub fn perform(&mut self, call: Call, borrowed: usize) -> Result<Answer, u32> {
+        match call {
+            Call::Make { k, n, m, g } => {
+                let shape = Shape::new(k, n, m, g).ok_or(refusal::SHAPE)?;
+                check_length(shape, borrowed)?;
+                *self = Ledger::new(shape);
+                Ok(Answer::Done)
+            }
+            Call::Clock { clock } => {
+                check_length(self.shape, borrowed)?;
+                when(clock > Shape::CLOCK_MAX, refusal::CLOCK_LIMIT)?;
+                when(clock < self.clock, refusal::CLOCK_BACK)?;
+                self.clock = clock;
+                Ok(Answer::Done)
+            }
+            Call::Delivery {
+                grade,
+                stamp,
+                volume,
+            } => {
+                check_length(self.shape, borrowed)?;
+                let entry = Entry {
+                    grade,
+                    stamp,
+                    volume,
+                };
+                self.check_delivery(entry)?;
+                self.entries.push(entry);
+                Ok(Answer::Done)
+            }
+            Call::Query { grade, window } => {
+                check_length(self.shape, borrowed)?;
+                when(grade >= self.shape.g(), refusal::GRADE)?;
+                let too_long = u64::from(window) > self.shape.interval_ticks();
+                when(too_long, refusal::WINDOW)?;
+                Ok(Answer::Sum(self.window_sum(grade, window)))
+            }
+        }
+    }
+
+    fn check_delivery(&self, entry: Entry) -> Result<(), u32> {
+        let stamp = u64::from(entry.stamp);
+        let end = stamp + self.shape.interval_ticks();
+        when(entry.grade >= self.shape.g(), refusal::GRADE)?;
+        when(entry.volume == 0, refusal::VOLUME)?;
+        when(entry.volume > Shape::VOLUME_MAX, refusal::VOLUME)?;
+        when(entry.stamp > self.clock, refusal::AHEAD)?;
+        when(end < u64::from(self.clock), refusal::LATE)?;
+        let total = self.interval_total(entry.grade, self.shape.interval(stamp));
+        let full = total + u64::from(entry.volume) > self.shape.capacity();
+        when(full, refusal::FULL)
+    }
+
+    /// Whether the window that ends at the clock reaches this stamp, both ends included.
+    pub fn covers(&self, window: u32, stamp: u32) -> bool {
+        stamp <= self.clock && u64::from(stamp) + u64::from(window) >= u64::from(self.clock)
+    }
+
+    /// All that a grade has received in an interval.
+    pub fn interval_total(&self, grade: u32, interval: u64) -> u64 {
+        self.sum(|e| e.grade == grade && self.shape.interval(e.stamp.into()) == interval)
+    }
+
+    /// All that a grade has received in a window.
+    pub fn window_sum(&self, grade: u32, window: u32) -> u64 {
+        self.sum(|e| e.grade == grade && self.covers(window, e.stamp))
+    }
+
+    fn sum(&self, counted: impl Fn(&Entry) -> bool) -> u64 {
+        let volume = |e: &Entry| if counted(e) { u64::from(e.volume) } else { 0 };
+        self.entries.iter().map(volume).sum()
+    }
+}
+
+fn check_length(shape: Shape, borrowed: usize) -> Result<(), u32> {
+    // No shape asks for so few words that a missing head would need its own test.
+    when(borrowed != shape.book_length(), refusal::LENGTH)
+}

@@ -1,0 +1,18 @@
+//! A second implementation of document 01, as plain as it can be.
+//!
+//! It shares nothing with the proved code but the document. A call decodes the words into vectors
+//! of buckets, inserts decilitre by decilitre, and encodes the vectors again; clarity comes before
+//! speed everywhere.
+
+#![forbid(unsafe_code)]
+#![warn(missing_docs)]
+
+pub mod calls;
+pub mod histogram;
+pub mod ledger;
+pub mod protocol;
+pub mod random;
+pub mod refusal;
+pub mod shape;
+pub mod soundness;
+pub mod words;

@@ -1,0 +1,132 @@
+//! The shape, its limits and the lengths that follow from it (document 01, "Words and limits" and
+//! the layout in "The book").
+
+use std::ops::Range;
+
+/// A shape within its limits.
+#[derive(Clone, Copy, Debug, PartialEq, Eq)]
+pub struct Shape {
+    k: u32,
+    n: u32,
+    m: u32,
+    g: u32,
+}
+
+impl Shape {
+    /// Least exponent of the interval.
+    pub const K_MIN: u32 = 2;
+    /// Greatest exponent of the interval.
+    pub const K_MAX: u32 = 20;
+    /// Fewest slots of a level.
+    pub const N_MIN: u32 = 2;
+    /// Most slots of a level.
+    pub const N_MAX: u32 = 1024;
+    /// Least number of the last level.
+    pub const M_MIN: u32 = 1;
+    /// Greatest number of the last level.
+    pub const M_MAX: u32 = 24;
+    /// Fewest grades.
+    pub const G_MIN: u32 = 1;
+    /// Most grades.
+    pub const G_MAX: u32 = 8;
+    /// Latest tick that the clock can show.
+    pub const CLOCK_MAX: u32 = 2_000_000_000;
+    /// Largest volume of one delivery.
+    pub const VOLUME_MAX: u32 = 65_535;
+
+    /// Words of the head.
+    pub const HEAD_WORDS: usize = 8;
+    /// Words of a slot (document 01's place): offset, length, weight.
+    pub const SLOT_WORDS: usize = 3;
+    /// Words of a level before its slots: bucket count and first.
+    pub const LEVEL_HEAD_WORDS: usize = 2;
+    /// Words of a block before its levels: one total for each parity.
+    pub const BLOCK_HEAD_WORDS: usize = 2;
+
+    /// The shape of these four numbers, or nothing where one is outside its limits.
+    pub fn new(k: u32, n: u32, m: u32, g: u32) -> Option<Shape> {
+        let within = (Self::K_MIN..=Self::K_MAX).contains(&k)
+            && (Self::N_MIN..=Self::N_MAX).contains(&n)
+            && (Self::M_MIN..=Self::M_MAX).contains(&m)
+            && (Self::G_MIN..=Self::G_MAX).contains(&g);
+        within.then_some(Shape { k, n, m, g })
+    }
+
+    /// The exponent of the interval.
+    pub fn k(self) -> u32 {
+        self.k
+    }
+
+    /// The slots of a level.
+    pub fn n(self) -> u32 {
+        self.n
+    }
+
+    /// The number of the last level.
+    pub fn m(self) -> u32 {
+        self.m
+    }
+
+    /// The count of grades.
+    pub fn g(self) -> u32 {
+        self.g
+    }
+
+    /// Ticks of an interval.
+    pub fn interval_ticks(self) -> u64 {
+        1 << self.k
+    }
+
+    /// Decilitres that one grade keeps in one interval.
+    pub fn capacity(self) -> u64 {
+        1 << self.m
+    }
+
+    /// The interval in which a tick lies.
+    pub fn interval(self, tick: u64) -> u64 {
+        tick / self.interval_ticks()
+    }
+
+    /// The place of a tick within its interval.
+    pub fn offset(self, tick: u64) -> u64 {
+        tick % self.interval_ticks()
+    }
+
+    /// Which of a block's two histograms serves the interval of a tick.
+    pub fn parity(self, tick: u64) -> usize {
+        usize::from(self.interval(tick) % 2 == 1)
+    }
+
+    /// Levels of a histogram, level 0 included.
+    pub fn levels(self) -> usize {
+        self.m as usize + 1
+    }
+
+    /// Words of a level.
+    pub fn level_length(self) -> usize {
+        Self::LEVEL_HEAD_WORDS + Self::SLOT_WORDS * self.n as usize
+    }
+
+    /// Words of a grade's block.
+    pub fn block_length(self) -> usize {
+        Self::BLOCK_HEAD_WORDS + 2 * self.levels() * self.level_length()
+    }
+
+    /// Words of the whole book.
+    pub fn book_length(self) -> usize {
+        Self::HEAD_WORDS + self.g as usize * self.block_length()
+    }
+
+    /// The words of a grade's block within the book.
+    pub fn block(self, grade: u32) -> Range<usize> {
+        let start = Self::HEAD_WORDS + grade as usize * self.block_length();
+        start..start + self.block_length()
+    }
+
+    /// The words of one level within a block.
+    pub fn level(self, parity: usize, index: usize) -> Range<usize> {
+        let before = parity * self.levels() + index;
+        let start = Self::BLOCK_HEAD_WORDS + before * self.level_length();
+        start..start + self.level_length()
+    }
+}

@@ -1,0 +1,120 @@
+//! What the clock empties: nothing, one histogram of every grade, or both.
+
+use reference::calls::{clock, deliver, make, query};
+use reference::histogram::Histogram;
+use reference::shape::Shape;
+use reference::words::{decode_block, encode_block};
+
+fn shape() -> Shape {
+    Shape::new(2, 3, 5, 3).unwrap()
+}
+
+/// Three grades at clock 5, with deliveries in both intervals.
+fn book() -> Vec<u32> {
+    let mut words = vec![0; shape().book_length()];
+    make(&mut words, 2, 3, 5, 3).unwrap();
+    clock(&mut words, 5).unwrap();
+    for grade in 0..3 {
+        for stamp in 1..=5 {
+            deliver(&mut words, grade, stamp, 2 + grade).unwrap();
+        }
+    }
+    words
+}
+
+/// The words with a new clock and these parities of every grade emptied.
+fn emptied(mut words: Vec<u32>, new: u32, parities: &[usize]) -> Vec<u32> {
+    words[4] = new;
+    for grade in 0..3 {
+        let range = shape().block(grade);
+        let raw = decode_block(shape(), &words[range.clone()]);
+        let mut block = raw.map(|raw| raw.histogram());
+        for parity in parities {
+            block[*parity] = Histogram::empty(shape());
+        }
+        encode_block(shape(), &block, &mut words[range]);
+    }
+    words
+}
+
+#[test]
+fn clock_within_the_interval_changes_one_word() {
+    for new in [5, 6, 7] {
+        let mut words = book();
+        clock(&mut words, new).unwrap();
+        let mut expected = book();
+        expected[4] = new;
+        assert_eq!(words, expected);
+    }
+}
+
+#[test]
+fn next_interval_empties_its_parity() {
+    for new in 8..=11 {
+        let mut words = book();
+        clock(&mut words, new).unwrap();
+        assert_eq!(words, emptied(book(), new, &[0]));
+    }
+    let mut words = book();
+    clock(&mut words, 8).unwrap();
+    let even = words.clone();
+    clock(&mut words, 12).unwrap();
+    assert_eq!(words, emptied(even, 12, &[1]));
+}
+
+#[test]
+fn skipped_interval_empties_both() {
+    // Interval 3 has the parity of the interval that it leaves, interval 4 the other one.
+    for new in [12, 13, 15, 16, 19, 20, 1000, 2_000_000_000] {
+        let mut words = book();
+        clock(&mut words, new).unwrap();
+        assert_eq!(words, emptied(book(), new, &[0, 1]));
+        for grade in 0..3 {
+            assert_eq!(query(&words, grade, 4), Ok(0));
+        }
+    }
+}
+
+#[test]
+fn all_grades_are_inspected_before_any_is_emptied() {
+    for grade in 0..3 {
+        for parity in 0..2 {
+            let mut words = book();
+            words[shape().block(grade).start + parity] += 1;
+            for new in [5, 6, 8, 12] {
+                let before = words.clone();
+                assert_eq!(clock(&mut words, new), Err(11));
+                assert_eq!(words, before);
+            }
+        }
+    }
+}
+
+#[test]
+fn window_into_the_interval_before_adds_the_current_total() {
+    let words = book();
+    // Stamps 1 to 5 carry 2 each; stamps 4 and 5 are in the current interval.
+    for (window, sum) in [(0, 2), (1, 4), (2, 6), (3, 8), (4, 10)] {
+        assert_eq!(query(&words, 0, window), Ok(sum), "window {window}");
+    }
+    let mut words = book();
+    clock(&mut words, 7).unwrap();
+    for (window, sum) in [(0, 0), (1, 0), (2, 2), (3, 4), (4, 6)] {
+        assert_eq!(query(&words, 0, window), Ok(sum), "window {window}");
+    }
+}
+
+#[test]
+fn window_longer_than_the_clock_opens_at_0() {
+    let mut words = vec![0; shape().book_length()];
+    make(&mut words, 2, 3, 5, 3).unwrap();
+    for window in 0..=4 {
+        assert_eq!(query(&words, 0, window), Ok(0));
+    }
+    clock(&mut words, 2).unwrap();
+    deliver(&mut words, 0, 0, 5).unwrap();
+    deliver(&mut words, 0, 2, 1).unwrap();
+    for (window, sum) in [(0, 1), (1, 1), (2, 6), (3, 6), (4, 6)] {
+        assert_eq!(query(&words, 0, window), Ok(sum), "window {window}");
+    }
+}

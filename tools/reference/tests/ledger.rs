@@ -1,0 +1,389 @@
+//! Random runs of the book against the ledger: the same refusals, answers within the bound, late
+//! deliveries never missed, levels near the truth, and every grown block sound.
+
+mod generate;
+
+use generate::Source;
+use reference::calls::{perform, Answer, Call};
+use reference::histogram::Histogram;
+use reference::ledger::Ledger;
+use reference::random::Random;
+use reference::shape::Shape;
+use reference::soundness::block_faults;
+use reference::words::decode_block;
+
+/// What a run has met, so that a test can tell that it tested something.
+#[derive(Default)]
+struct Seen {
+    refused: [usize; 13],
+    makes: usize,
+    /// Clocks that left out an interval.
+    skips: usize,
+    /// Answers under the bound, and those among them that differ from the ledger's.
+    bounded: usize,
+    inexact: usize,
+    above: usize,
+    below: usize,
+    from_level_0: usize,
+    late_checked: usize,
+}
+
+struct Run {
+    words: Vec<u32>,
+    ledger: Ledger,
+    /// Stamps that were refused as late since the last accepted make.
+    late: Vec<u32>,
+    seen: Seen,
+}
+
+impl Run {
+    fn new(shape: Shape) -> Run {
+        let mut words = vec![0; shape.book_length()];
+        perform(&mut words, make(shape)).unwrap();
+        Run {
+            words,
+            ledger: Ledger::new(shape),
+            late: Vec::new(),
+            seen: Seen::default(),
+        }
+    }
+
+    fn steps(&mut self, source: &mut Source, calls: usize) {
+        for _ in 0..calls {
+            let call = source.call(self.ledger.shape(), self.ledger.clock());
+            self.step(call, self.words.len());
+        }
+    }
+
+    /// One call on the first `borrowed` words, by book and by ledger.
+    fn step(&mut self, call: Call, borrowed: usize) {
+        let before = self.words.clone();
+        let old = self.ledger.clock();
+        let book = perform(&mut self.words[..borrowed], call);
+        let ledger = self.ledger.perform(call, borrowed);
+        assert_eq!(book.err(), ledger.err(), "{call:?} on {borrowed} words");
+        if let Call::Query { window, .. } = call {
+            self.check_late(window);
+        }
+        match (call, book) {
+            (_, Err(number)) => {
+                assert!(number != 7 && number != 11);
+                assert_eq!(self.words, before);
+                self.seen.refused[number as usize] += 1;
+                if let (Call::Delivery { stamp, .. }, 9) = (call, number) {
+                    self.late.push(stamp);
+                }
+            }
+            (Call::Query { grade, window }, Ok(Answer::Sum(sum))) => {
+                assert_eq!(self.words, before);
+                assert_eq!(
+                    ledger,
+                    Ok(Answer::Sum(self.ledger.window_sum(grade, window)))
+                );
+                self.check_sum(grade, window, sum);
+            }
+            (Call::Make { .. }, _) => {
+                self.late.clear();
+                self.seen.makes += 1;
+            }
+            (Call::Clock { clock }, _) => {
+                let entered = |tick: u32| self.ledger.shape().interval(tick.into());
+                self.seen.skips += usize::from(entered(clock) - entered(old) > 1);
+            }
+            _ => {}
+        }
+        self.check_blocks();
+    }
+
+    /// A window that a query may ask reaches none of the stamps refused as late.
+    fn check_late(&mut self, window: u32) {
+        if u64::from(window) <= self.ledger.shape().interval_ticks() {
+            for stamp in &self.late {
+                assert!(!self.ledger.covers(window, *stamp));
+                self.seen.late_checked += 1;
+            }
+        }
+    }
+
+    fn check_sum(&mut self, grade: u32, window: u32, book: u64) {
+        let shape = self.ledger.shape();
+        let exact = self.ledger.window_sum(grade, window);
+        let opening = u64::from(self.ledger.clock().saturating_sub(window));
+        let histogram = &self.block(grade)[shape.parity(opening)];
+        if histogram.serving_level(shape.offset(opening)) == Some(0) {
+            assert_eq!(book, exact);
+            self.seen.from_level_0 += 1;
+        }
+        let (k, n) = (u64::from(shape.k()), u64::from(shape.n()));
+        if n > k + 1 {
+            assert!(book.abs_diff(exact) * (n - k - 1) <= 2 * (k + 1) * exact);
+            self.seen.bounded += 1;
+            self.seen.inexact += usize::from(book != exact);
+            self.seen.above += usize::from(book > exact);
+            self.seen.below += usize::from(book < exact);
+        }
+    }
+
+    fn block(&self, grade: u32) -> [Histogram; 2] {
+        let shape = self.ledger.shape();
+        decode_block(shape, &self.words[shape.block(grade)]).map(|raw| raw.histogram())
+    }
+
+    fn check_blocks(&self) {
+        let shape = self.ledger.shape();
+        for grade in 0..shape.g() {
+            let block = decode_block(shape, &self.words[shape.block(grade)]);
+            assert_eq!(block_faults(shape, &block), []);
+        }
+    }
+
+    /// From every opening that a level keeps, its sum is at most (k+1) 2^i away from the truth.
+    /// Gives the number of openings where it is not the truth.
+    fn check_levels(&self) -> usize {
+        let shape = self.ledger.shape();
+        let current = shape.interval(self.ledger.clock().into());
+        let mut inexact = 0;
+        for grade in 0..shape.g() {
+            let block = self.block(grade);
+            for interval in current.saturating_sub(1)..=current {
+                let histogram = &block[interval as usize % 2];
+                let truth = self.sums_from(grade, interval);
+                assert_eq!(histogram.total, truth[0]);
+                for (index, level) in histogram.levels.iter().enumerate() {
+                    for opening in level.first..shape.interval_ticks() {
+                        let exact = truth[opening as usize];
+                        let error = level.sum_from(opening).abs_diff(exact);
+                        assert!(error <= u64::from(shape.k() + 1) << index);
+                        assert!(error == 0 || index > 0);
+                        inexact += usize::from(error > 0);
+                    }
+                }
+            }
+        }
+        inexact
+    }
+
+    /// The exact volume from each offset of an interval on.
+    fn sums_from(&self, grade: u32, interval: u64) -> Vec<u64> {
+        let shape = self.ledger.shape();
+        let mut sums = vec![0; shape.interval_ticks() as usize];
+        for entry in self.ledger.entries() {
+            let stamp = u64::from(entry.stamp);
+            if entry.grade == grade && shape.interval(stamp) == interval {
+                sums[shape.offset(stamp) as usize] += u64::from(entry.volume);
+            }
+        }
+        for offset in (1..sums.len()).rev() {
+            sums[offset - 1] += sums[offset];
+        }
+        sums
+    }
+}
+
+fn make(shape: Shape) -> Call {
+    let [k, n, m, g] = [shape.k(), shape.n(), shape.m(), shape.g()];
+    Call::Make { k, n, m, g }
+}
+
+fn shape(k: u32, n: u32, m: u32, g: u32) -> Shape {
+    Shape::new(k, n, m, g).unwrap()
+}
+
+fn source(seed: u64, shapes: &[Shape], calls_per_make: u64, usual_volume: u64) -> Source {
+    Source {
+        random: Random::new(seed),
+        shapes: shapes.to_vec(),
+        calls_per_make,
+        usual_volume,
+        clock_divisor: 4,
+    }
+}
+
+/// Every shape with a small interval whose book has this length.
+fn shapes_of_length(words: usize) -> Vec<Shape> {
+    let mut shapes = Vec::new();
+    for n in Shape::N_MIN..=Shape::N_MAX {
+        for (m, g) in (1..=24).flat_map(|m| (1..=8).map(move |g| (m, g))) {
+            let all = (2..=7).map(|k| shape(k, n, m, g));
+            shapes.extend(all.filter(|shape| shape.book_length() == words));
+        }
+    }
+    shapes
+}
+
+#[test]
+fn small_shapes_stay_within_the_bound() {
+    let mut inexact = 0;
+    for (seed, shape) in (1..).zip([
+        shape(2, 4, 12, 1),
+        shape(4, 6, 10, 2),
+        shape(5, 9, 12, 1),
+        shape(5, 16, 9, 3),
+    ]) {
+        let mut run = Run::new(shape);
+        run.steps(&mut source(seed, &[shape], 300, 5), 6000);
+        assert!(run.seen.makes > 5);
+        assert!(run.seen.skips > 5);
+        assert!(run.seen.from_level_0 > 100);
+        inexact += run.seen.inexact;
+    }
+    assert!(inexact > 300, "{inexact}");
+}
+
+#[test]
+fn long_intervals_stay_within_a_narrow_bound() {
+    // 2(k+1)/(n-k-1) is near a third, an eighth and an eleventh.
+    for (seed, shape, volume) in [
+        (11, shape(8, 64, 12, 1), 6),
+        (12, shape(10, 190, 13, 1), 20),
+        (13, shape(12, 300, 14, 1), 40),
+    ] {
+        let mut run = Run::new(shape);
+        let mut source = source(seed, &[shape], 3000, volume);
+        source.clock_divisor = 200;
+        run.steps(&mut source, 9000);
+        assert!(run.seen.inexact > 50, "{}", run.seen.inexact);
+        assert!(run.seen.above > 0 && run.seen.below > 0);
+    }
+}
+
+#[test]
+fn few_slots_still_share_every_refusal() {
+    for seed in 21..=30 {
+        let mut random = Random::new(seed);
+        let k = random.between(2, 6);
+        let shape = shape(k, random.between(2, k + 1), random.between(1, 14), 2);
+        let mut run = Run::new(shape);
+        run.steps(&mut source(seed, &[shape], 200, 3), 2500);
+        assert_eq!(run.seen.bounded, 0);
+        assert!(run.seen.from_level_0 > 0);
+    }
+}
+
+#[test]
+fn makes_of_other_shapes_in_the_same_words() {
+    let mut seen = Seen::default();
+    for (seed, start) in (31..).zip([
+        shape(4, 6, 15, 1),
+        shape(5, 10, 9, 1),
+        shape(2, 2, 4, 1),
+        shape(3, 6, 7, 2),
+    ]) {
+        let shapes = shapes_of_length(start.book_length());
+        assert!(shapes.iter().any(|s| s.n() != start.n()), "{shapes:?}");
+        let mut run = Run::new(start);
+        run.steps(&mut source(seed, &shapes, 120, 4), 6000);
+        for (sum, refused) in seen.refused.iter_mut().zip(run.seen.refused) {
+            *sum += refused;
+        }
+        seen.makes += run.seen.makes;
+        seen.inexact += run.seen.inexact;
+        seen.late_checked += run.seen.late_checked;
+    }
+    assert!(seen.makes > 100 && seen.inexact > 100 && seen.late_checked > 1000);
+    for number in [1, 2, 3, 4, 5, 6, 8, 9, 10, 12] {
+        assert!(seen.refused[number] > 20, "refusal {number}");
+    }
+}
+
+#[test]
+fn clock_at_its_last_tick() {
+    for (seed, shape) in (41..).zip([shape(2, 4, 8, 2), shape(6, 9, 11, 1), shape(20, 30, 9, 1)]) {
+        let mut run = Run::new(shape);
+        let mut source = source(seed, &[shape], 1 << 40, 3);
+        let near = Shape::CLOCK_MAX - 30;
+        run.step(Call::Clock { clock: near }, shape.book_length());
+        run.steps(&mut source, 2000);
+        let last = Shape::CLOCK_MAX;
+        run.step(Call::Clock { clock: last }, shape.book_length());
+        assert_eq!(run.ledger.clock(), last);
+        run.steps(&mut source, 500);
+        assert!(run.seen.refused[6] > 50);
+    }
+}
+
+#[test]
+fn volumes_up_to_the_largest() {
+    let shape = shape(3, 5, 24, 1);
+    let mut run = Run::new(shape);
+    run.steps(&mut source(51, &[shape], 1 << 40, 65_535), 300);
+    assert!(run.seen.inexact > 5);
+}
+
+#[test]
+fn other_numbers_of_borrowed_words() {
+    let shapes = [shape(3, 5, 6, 1), shape(3, 5, 6, 2), shape(4, 4, 5, 1)];
+    let lengths = shapes.map(Shape::book_length);
+    let longest = *lengths.iter().max().unwrap();
+    let mut run = Run::new(shapes[1]);
+    assert_eq!(run.words.len(), longest);
+    let mut random = Random::new(61);
+    let mut source = source(62, &shapes, 40, 3);
+    for _ in 0..8000 {
+        let borrowed = match random.below(10) {
+            0 => random.below(10) as usize,
+            1 => random.below(longest as u64 + 1) as usize,
+            2 => random.pick(&lengths),
+            _ => run.ledger.shape().book_length(),
+        };
+        let call = source.call(run.ledger.shape(), run.ledger.clock());
+        run.step(call, borrowed);
+    }
+    assert!(run.seen.makes > 20 && run.seen.refused[2] > 1000);
+}
+
+#[test]
+fn every_level_is_near_the_truth() {
+    for (seed, shape) in (71..).zip([
+        shape(2, 2, 6, 1),
+        shape(3, 2, 8, 2),
+        shape(4, 3, 9, 1),
+        shape(5, 7, 10, 1),
+        shape(6, 12, 11, 1),
+    ]) {
+        let mut run = Run::new(shape);
+        let mut source = source(seed, &[shape], 400, 3);
+        let mut inexact = 0;
+        for _ in 0..3000 {
+            run.steps(&mut source, 1);
+            inexact += run.check_levels();
+        }
+        assert!(inexact > 1000, "{inexact}");
+    }
+}
+
+#[test]
+fn exhaustive_orders_of_units_are_near_the_truth() {
+    // All lists of seven single decilitres over the four offsets of an interval.
+    let shape = shape(2, 2, 3, 1);
+    for code in 0..1u32 << 14 {
+        let mut run = Run::new(shape);
+        run.step(Call::Clock { clock: 3 }, shape.book_length());
+        for unit in 0..7 {
+            let stamp = code >> (2 * unit) & 3;
+            let delivery = Call::Delivery {
+                grade: 0,
+                stamp,
+                volume: 1,
+            };
+            run.step(delivery, shape.book_length());
+        }
+        run.check_levels();
+    }
+}
+
+#[test]
+fn window_covers_both_its_ends() {
+    let shape = shape(3, 2, 4, 1);
+    let mut ledger = Ledger::new(shape);
+    let clock = Call::Clock { clock: 9 };
+    ledger.perform(clock, shape.book_length()).unwrap();
+    let covered = |window| -> Vec<u32> {
+        let stamps = 0..20;
+        stamps.filter(|s| ledger.covers(window, *s)).collect()
+    };
+    assert_eq!(covered(0), [9]);
+    assert_eq!(covered(2), [7, 8, 9]);
+    assert_eq!(covered(9).len(), 10);
+    assert_eq!(covered(u32::MAX).len(), 10);
+}

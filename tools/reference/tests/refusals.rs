@@ -1,0 +1,199 @@
+//! The order of refusals, one call after another with fewer and fewer reasons, and the exact edge
+//! of each condition.
+
+use reference::calls::{clock, deliver, make, perform, query, Answer, Call};
+use reference::shape::Shape;
+
+/// Two grades at clock 8; grade 1 is full in the current interval.
+fn book() -> Vec<u32> {
+    let shape = Shape::new(2, 2, 4, 2).unwrap();
+    let mut words = vec![0; shape.book_length()];
+    make(&mut words, 2, 2, 4, 2).unwrap();
+    clock(&mut words, 8).unwrap();
+    deliver(&mut words, 1, 8, 16).unwrap();
+    words
+}
+
+/// The same with a total above all limits in grade 1, in the half that the calls do not touch.
+fn unsound() -> Vec<u32> {
+    let mut words = book();
+    words[Shape::new(2, 2, 4, 2).unwrap().block(1).start + 1] = u32::MAX;
+    words
+}
+
+fn bad_head(mut words: Vec<u32>) -> Vec<u32> {
+    words[7] = 1;
+    words
+}
+
+fn cut(mut words: Vec<u32>, length: usize) -> Vec<u32> {
+    words.truncate(length);
+    words
+}
+
+fn longer(mut words: Vec<u32>) -> Vec<u32> {
+    words.push(0);
+    words
+}
+
+fn assert_refused(mut words: Vec<u32>, call: Call, number: u32) {
+    let before = words.clone();
+    assert_eq!(perform(&mut words, call), Err(number), "{call:?}");
+    assert_eq!(words, before, "{call:?}");
+}
+
+fn delivery(grade: u32, stamp: u32, volume: u32) -> Call {
+    Call::Delivery {
+        grade,
+        stamp,
+        volume,
+    }
+}
+
+/// Lengths and heads, for each call that reads a head.
+fn assert_opening(call: Call) {
+    assert_refused(vec![], call, 2);
+    assert_refused(cut(bad_head(unsound()), 7), call, 2);
+    assert_refused(cut(bad_head(unsound()), 8), call, 7);
+    assert_refused(longer(bad_head(unsound())), call, 7);
+    assert_refused(bad_head(unsound()), call, 7);
+    assert_refused(cut(unsound(), 8), call, 2);
+    assert_refused(longer(unsound()), call, 2);
+}
+
+#[test]
+fn order_for_make() {
+    for (k, n, m, g) in [(1, 2, 4, 2), (2, 1, 4, 2), (2, 2, 0, 2), (2, 2, 4, 0)] {
+        let call = Call::Make { k, n, m, g };
+        for words in [book(), vec![], cut(book(), 7), bad_head(unsound())] {
+            assert_refused(words, call, 1);
+        }
+    }
+    let [k, n, m, g] = [2, 2, 4, 2];
+    let call = Call::Make { k, n, m, g };
+    for words in [vec![], cut(book(), 7), cut(book(), 8), longer(book())] {
+        assert_refused(words, call, 2);
+    }
+    let mut words = bad_head(unsound());
+    assert_eq!(perform(&mut words, call), Ok(Answer::Done));
+}
+
+#[test]
+fn order_for_deliveries() {
+    assert_opening(delivery(2, 9, 0));
+    assert_refused(unsound(), delivery(2, 9, 0), 3);
+    assert_refused(unsound(), delivery(1, 9, 0), 4);
+    assert_refused(unsound(), delivery(1, 3, 65_536), 4);
+    assert_refused(unsound(), delivery(1, 9, 17), 8);
+    assert_refused(unsound(), delivery(1, 3, 17), 9);
+    assert_refused(unsound(), delivery(1, 8, 17), 11);
+    assert_refused(book(), delivery(1, 8, 1), 12);
+}
+
+#[test]
+fn order_for_queries() {
+    let query = |grade, window| Call::Query { grade, window };
+    assert_opening(query(2, 5));
+    assert_refused(unsound(), query(2, 5), 3);
+    assert_refused(unsound(), query(1, 5), 5);
+    assert_refused(unsound(), query(1, 4), 11);
+}
+
+#[test]
+fn order_for_clocks() {
+    let above = Call::Clock {
+        clock: 2_000_000_001,
+    };
+    assert_opening(above);
+    assert_refused(unsound(), above, 6);
+    assert_refused(unsound(), Call::Clock { clock: 7 }, 10);
+    assert_refused(unsound(), Call::Clock { clock: 8 }, 11);
+    assert_refused(unsound(), Call::Clock { clock: 100 }, 11);
+}
+
+#[test]
+fn only_the_named_block_is_inspected() {
+    let mut words = unsound();
+    assert_eq!(query(&words, 0, 4), Ok(0));
+    assert_eq!(deliver(&mut words, 0, 8, 1), Ok(()));
+    assert_eq!(query(&words, 0, 4), Ok(1));
+}
+
+#[test]
+fn edges_of_stamps() {
+    for (stamp, answer) in [(8, Ok(())), (9, Err(8)), (4, Ok(())), (3, Err(9))] {
+        assert_eq!(deliver(&mut book(), 0, stamp, 1), answer, "stamp {stamp}");
+    }
+    for stamp in [u32::MAX, u32::MAX - 3, u32::MAX - 4] {
+        assert_eq!(deliver(&mut book(), 0, stamp, 1), Err(8), "stamp {stamp}");
+    }
+}
+
+#[test]
+fn edges_of_volumes() {
+    for (volume, answer) in [(0, Err(4)), (1, Ok(())), (16, Ok(())), (17, Err(12))] {
+        assert_eq!(deliver(&mut book(), 0, 8, volume), answer, "{volume}");
+    }
+    for (volume, number) in [(65_535, 12), (65_536, 4), (u32::MAX, 4)] {
+        assert_eq!(deliver(&mut book(), 0, 8, volume), Err(number), "{volume}");
+    }
+    let mut words = vec![0; Shape::new(2, 2, 16, 1).unwrap().book_length()];
+    make(&mut words, 2, 2, 16, 1).unwrap();
+    assert_eq!(deliver(&mut words, 0, 0, 65_535), Ok(()));
+    assert_eq!(deliver(&mut words, 0, 0, 2), Err(12));
+    assert_eq!(deliver(&mut words, 0, 0, 1), Ok(()));
+    assert_eq!(query(&words, 0, 0), Ok(65_536));
+}
+
+#[test]
+fn edges_of_clocks() {
+    for (new, answer) in [
+        (7, Err(10)),
+        (8, Ok(())),
+        (2_000_000_000, Ok(())),
+        (2_000_000_001, Err(6)),
+        (u32::MAX, Err(6)),
+    ] {
+        assert_eq!(clock(&mut book(), new), answer, "clock {new}");
+    }
+}
+
+#[test]
+fn edges_of_windows_and_grades() {
+    for (window, answer) in [(0, Ok(16)), (4, Ok(16)), (5, Err(5)), (u32::MAX, Err(5))] {
+        assert_eq!(query(&book(), 1, window), answer, "window {window}");
+    }
+    for grade in [2, 3, 1 << 31, u32::MAX] {
+        assert_eq!(query(&book(), grade, 0), Err(3));
+        assert_eq!(deliver(&mut book(), grade, 8, 1), Err(3));
+    }
+}
+
+#[test]
+fn edges_of_shapes() {
+    let limits = [(2, 20), (2, 1024), (1, 24), (1, 8)];
+    let middle = [9, 30, 7, 3];
+    for (field, (low, high)) in limits.into_iter().enumerate() {
+        let at = |value| {
+            let mut numbers = middle;
+            numbers[field] = value;
+            let [k, n, m, g] = numbers;
+            Shape::new(k, n, m, g).is_some()
+        };
+        assert!(at(low) && at(high), "field {field}");
+        assert!(!at(low - 1) && !at(high + 1), "field {field}");
+        assert!(!at(u32::MAX) && !at(1 << 31), "field {field}");
+    }
+}
+
+#[test]
+fn largest_book() {
+    let shape = Shape::new(20, 1024, 24, 8).unwrap();
+    assert_eq!(shape.book_length(), 1_229_624);
+    let mut words = vec![9; shape.book_length()];
+    make(&mut words, 20, 1024, 24, 8).unwrap();
+    clock(&mut words, 2_000_000_000).unwrap();
+    deliver(&mut words, 7, 2_000_000_000, 5).unwrap();
+    assert_eq!(query(&words, 7, 1 << 20), Ok(5));
+    assert_eq!(query(&words, 6, 1 << 20), Ok(0));
+}

@@ -32,6 +32,21 @@ lt-or-ge x y = go (ltb x y) (λ t. ltb→lt x y t) (λ t. nltb→le x y t)
     go true f g = inl (f tt)
     go false f g = inr (g tt)
 
+-- two numbers are equal, or not
+pub eq-or-ne : (x y : ℕ) → (x ≡ y) ⊎ (x ≡ y → ⊥)
+eq-or-ne x y = by-eq {a = true} {b = true} x y (λ _. (x ≡ y) ⊎ (x ≡ y → ⊥)) inl inr
+
 -- a conjunction from its parts
 pub and-true : {a b : Bool} → a ≡ true → b ≡ true → (a && b) ≡ true
 and-true {a} {b} p q = rw (p, q)
+
+-- a conjunction whose second part fails
+pub and-false : (a : Bool) {b : Bool} → b ≡ false → (a && b) ≡ false
+and-false true e = e
+and-false false e = refl
+
+-- a conjunction taken by its two cases
+pub by-both : {A : Type 0} (P : A → Type 0) {a b : A} (s t : Bool) → (T s → T t → P a) → ((T s → T t → ⊥) → P b) → P (cond (s && t) a b)
+by-both P true true f g = f tt tt
+by-both P true false f g = g (λ _ h. h)
+by-both P false t f g = g (λ h _. h)

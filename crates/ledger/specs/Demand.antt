@@ -1,0 +1,272 @@
+-- Demand 3, whole: `Claim` of the model, by one induction over the list of calls. The invariant is that the words are those of the
+-- ledger. Rests on `agree` (the same first refusal), on what each accepted call leaves, and on the bound of an answer.
+use mathlib.Core.Bool.{Bool, true, false}
+use mathlib.Core.Path.{_≡_, refl, sym, ap, _∙_}
+use mathlib.Core.Logic.{⊎-elim}
+use mathlib.Core.List.{List, [], _∷_}
+use Prim.Native.Nat.{ℕ, _+_, _^_, _≤_, _<_}
+use native.Mathlib.Nat.{le-refl}
+use native.Mathlib.Omega.{arith}
+use lib.ListN.{length}
+use borrow.Author.Tests.{lt-ltb, ltb-true}
+use Rattle.shape.specs.declared.Shape.{Shape}
+use Rattle.shape.specs.Limits.{shape}
+use Rattle.model.specs.declared.Call.{Call}
+use Rattle.model.specs.declared.Call.the-variants.{Make, Clock, Delivery, Query}
+use Rattle.model.specs.Block.{late, answer, opening}
+use Rattle.model.specs.Words.{shapeOf, clockOf}
+use Rattle.model.specs.Calls.{blockAt, firstOf, refusals, bookView, accept, perform, made, clocked, delivered}
+use Rattle.model.specs.Ledger.{Entry, Ledger, ledger, ledgerView, note, enter}
+use Rattle.model.specs.Claim.{Turn, run, Each, ByCall, Bound, Span, Outside, Missed, Kept, Claim}
+use Rattle.laws.specs.Cases.{eq-or-ne}
+use Rattle.ledger.specs.First.{settle-accepted, settle-refused, perform-number, enter-number}
+use Rattle.ledger.specs.Time.{late-outside}
+use Rattle.ledger.specs.Book.{blockFor}
+use Rattle.ledger.specs.State.{Good, wordsOf}
+use Rattle.ledger.specs.Agree.{agree, late-stamp, accepted-delivery, accepted-query, accepted-clock, accepted-make}
+use Rattle.ledger.specs.Next.{made-words, made-good, shape-is, clock-is, block-is, clocked-words, clocked-good, delivered-words, delivered-good}
+use Rattle.ledger.specs.Window.{answer-admits}
+
+-- what a call leads to: the words and the ledger afterwards, which stand for each other; within a span k stays and the clock does not fall
+pub record Next (k n m g clock : ℕ) (es : List Entry) (call : Call) : Type 0 where
+  pub k′ : ℕ
+  pub n′ : ℕ
+  pub m′ : ℕ
+  pub g′ : ℕ
+  pub clock′ : ℕ
+  pub es′ : List Entry
+  pub good : Good k′ n′ m′ g′ clock′ es′
+  pub book : perform (wordsOf (shape k n m g) clock es) call .left ≡ wordsOf (shape k′ n′ m′ g′) clock′ es′
+  pub exact : enter (length (wordsOf (shape k n m g) clock es)) (ledger (shape k n m g) clock es) call .left ≡ ledger (shape k′ n′ m′ g′) clock′ es′
+  pub span : ByCall (perform (wordsOf (shape k n m g) clock es) call .reply .number ≡ 0 → ⊥) (Unit {0}) (λ _. Unit {0}) (λ _. Unit {0}) call
+      → (k′ ≡ k) × (clock ≤ clock′)
+
+module _ (k n m g clock : ℕ) (es : List Entry) (good : Good k n m g clock es) where
+  abbrev s : Shape
+  s = shape k n m g
+
+  abbrev ws : List ℕ
+  ws = wordsOf s clock es
+
+  abbrev l : Ledger
+  l = ledger s clock es
+
+  abbrev first : Call → ℕ
+  first call = firstOf (refusals (bookView ws) call)
+
+  abbrev exactFirst : Call → ℕ
+  exactFirst call = firstOf (refusals (ledgerView (length ws) l) call)
+
+  same-first : (call : Call) → first call ≡ exactFirst call
+  same-first = agree k n m g clock es good
+
+  -- ---- both sides of a call, accepted and refused
+
+  module _ (call : Call) where
+    book-accepted : first call ≡ 0 → perform ws call ≡ accept ws call
+    unfolding perform
+    book-accepted h = settle-accepted (refusals (bookView ws) call) ws (accept ws call) h
+
+    exact-accepted : first call ≡ 0 → enter (length ws) l call ≡ note l call
+    unfolding enter
+    exact-accepted h = settle-accepted (refusals (ledgerView (length ws) l) call) l (note l call) (sym (same-first call) ∙ h)
+
+    refused-next : (first call ≡ 0 → ⊥) → Next k n m g clock es call
+    unfolding perform enter
+    refused-next h = record {
+      k′ = k;
+      n′ = n;
+      m′ = m;
+      g′ = g;
+      clock′ = clock;
+      es′ = es;
+      good = good;
+      book = ap (λ o. o .left) (settle-refused (refusals (bookView ws) call) ws (accept ws call) h);
+      exact = ap (λ o. o .left) (settle-refused (refusals (ledgerView (length ws) l) call) l (note l call) (λ e. h (same-first call ∙ e)));
+      span = λ _. (refl, le-refl clock);
+    }
+
+    same-number : perform ws call .reply .number ≡ enter (length ws) l call .reply .number
+    same-number = perform-number ws call ∙ same-first call ∙ sym (enter-number (length ws) l call)
+
+  -- ---- what an accepted call leads to
+
+  module _ (call : Call) (h : first call ≡ 0) where
+    exact-first : exactFirst call ≡ 0
+    exact-first = sym (same-first call) ∙ h
+
+  make-next : (k′ n′ m′ g′ : ℕ) → first (Make k′ n′ m′ g′) ≡ 0 → Next k n m g clock es (Make k′ n′ m′ g′)
+  make-next k′ n′ m′ g′ h =
+      let call : Call = Make k′ n′ m′ g′ in
+      record {
+        k′ = k′;
+        n′ = n′;
+        m′ = m′;
+        g′ = g′;
+        clock′ = 0;
+        es′ = [];
+        good = made-good k′ n′ m′ g′ (accepted-make (bookView ws) k′ n′ m′ g′ h .0);
+        book = ap (λ o. o .left) (book-accepted call h) ∙ made-words (shape k′ n′ m′ g′);
+        exact = ap (λ o. o .left) (exact-accepted call h);
+        span = λ refused. absurd (refused (perform-number ws call ∙ h));
+      }
+
+  clock-next : (to : ℕ) → first (Clock to) ≡ 0 → Next k n m g clock es (Clock to)
+  clock-next to h =
+      let facts = accepted-clock k n m g clock es to (exact-first (Clock to) h) in
+      record {
+        k′ = k;
+        n′ = n;
+        m′ = m;
+        g′ = g;
+        clock′ = to;
+        es′ = es;
+        good = clocked-good k n m g clock es good to (facts .1) (facts .0);
+        book = ap (λ o. o .left) (book-accepted (Clock to) h) ∙ ap (λ (z : Shape). clocked z to ws) (shape-is k n m g clock es good)
+            ∙ clocked-words k n m g clock es good to (facts .1);
+        exact = ap (λ o. o .left) (exact-accepted (Clock to) h);
+        span = λ _. (refl, facts .1);
+      }
+
+  delivery-next : (grade stamp volume : ℕ) → first (Delivery grade stamp volume) ≡ 0 → Next k n m g clock es (Delivery grade stamp volume)
+  delivery-next grade stamp volume h =
+      let call : Call = Delivery grade stamp volume in
+      let facts = accepted-delivery k n m g clock es grade stamp volume (exact-first call h) in
+      let e : Entry = record { grade = grade; stamp = stamp; volume = volume } in
+      record {
+        k′ = k;
+        n′ = n;
+        m′ = m;
+        g′ = g;
+        clock′ = clock;
+        es′ = e ∷ es;
+        good = delivered-good k n m g clock es good e (facts .0) (facts .1) (facts .2) (facts .3);
+        book = ap (λ o. o .left) (book-accepted call h) ∙ ap (λ (z : Shape). delivered z grade stamp volume ws) (shape-is k n m g clock es good)
+            ∙ delivered-words k n m g clock es good e (facts .0) (facts .1) (facts .2);
+        exact = ap (λ o. o .left) (exact-accepted call h);
+        span = λ _. (refl, le-refl clock);
+      }
+
+  query-next : (grade window : ℕ) → first (Query grade window) ≡ 0 → Next k n m g clock es (Query grade window)
+  query-next grade window h = record {
+    k′ = k;
+    n′ = n;
+    m′ = m;
+    g′ = g;
+    clock′ = clock;
+    es′ = es;
+    good = good;
+    book = ap (λ o. o .left) (book-accepted (Query grade window) h);
+    exact = ap (λ o. o .left) (exact-accepted (Query grade window) h);
+    span = λ _. (refl, le-refl clock);
+  }
+
+  accepted-next : (call : Call) → first call ≡ 0 → Next k n m g clock es call
+  accepted-next (Make k′ n′ m′ g′) h = make-next k′ n′ m′ g′ h
+  accepted-next (Clock to) h = clock-next to h
+  accepted-next (Delivery grade stamp volume) h = delivery-next grade stamp volume h
+  accepted-next (Query grade window) h = query-next grade window h
+
+  pub next : (call : Call) → Next k n m g clock es call
+  next call = ⊎-elim (accepted-next call) (refused-next call) (eq-or-ne (first call) 0)
+
+  -- ---- one turn
+
+  abbrev turn : Call → Turn
+  turn call = record { call = call; ledger = l; book = perform ws call .reply; exact = enter (length ws) l call .reply }
+
+  answer-is : (grade window : ℕ) → grade < g
+      → answer (shapeOf ws) (clockOf ws) (opening (clockOf ws) window) (blockAt ws grade) ≡ answer s clock (opening clock window) (blockFor s clock es grade)
+  unfolding wordsOf
+  answer-is grade window h = ap (answer s clock (opening clock window)) (block-is k n m g clock es good grade h)
+
+  query-bound : (grade window : ℕ) → Bound (turn (Query grade window))
+  query-bound grade window number room =
+      let call : Call = Query grade window in
+      let h : first call ≡ 0 = sym (perform-number ws call) ∙ number in
+      let facts = accepted-query k n m g clock es grade window (exact-first call h) in
+      rw (book-accepted call h, exact-accepted call h, answer-is grade window (facts .0))
+      (answer-admits k n m g clock es good room grade window (facts .1))
+
+  turn-bound : (call : Call) → Bound (turn call)
+  turn-bound (Make k′ n′ m′ g′) = tt
+  turn-bound (Clock to) = tt
+  turn-bound (Delivery grade stamp volume) = tt
+  turn-bound (Query grade window) = query-bound grade window
+
+  turn-late : (grade stamp volume : ℕ) → turn (Delivery grade stamp volume) .book .number ≡ 9 → late s clock stamp ≡ true
+  turn-late grade stamp volume number =
+      let call : Call = Delivery grade stamp volume in
+      late-stamp k n m g clock es grade stamp volume (sym (same-first call) ∙ sym (perform-number ws call) ∙ number)
+
+  -- ---- what is late stays so through the span
+
+  module _ (call : Call) (c : Next k n m g clock es call) (stamp : ℕ) (h : stamp + 2 ^ k < clock) where
+    late-next : ByCall (perform ws call .reply .number ≡ 0 → ⊥) (Unit {0}) (λ _. Unit {0}) (λ _. Unit {0}) call → stamp + 2 ^ c .k′ < c .clock′
+    late-next within =
+        let facts = c .span within in
+        let power : 2 ^ c .k′ ≡ 2 ^ k = ap (λ (z : ℕ). 2 ^ z) (facts .0) in
+        omega (arith, facts .1)
+
+  span-step : (call : Call) (c : Next k n m g clock es call) (ts : List Turn) (stamp : ℕ) → stamp + 2 ^ k < clock
+      → (stamp + 2 ^ c .k′ < c .clock′ → Span (Outside stamp) ts) → Span (Outside stamp) (turn call ∷ ts)
+  span-step (Make k′ n′ m′ g′) c ts stamp h rest = λ refused. (tt, rest (late-next (Make k′ n′ m′ g′) c stamp h refused))
+  span-step (Clock to) c ts stamp h rest = (tt, rest (late-next (Clock to) c stamp h tt))
+  span-step (Delivery grade other volume) c ts stamp h rest = (tt, rest (late-next (Delivery grade other volume) c stamp h tt))
+  span-step (Query grade window) c ts stamp h rest = (
+    λ w. late-outside s clock clock window stamp (lt-ltb (stamp + 2 ^ k) clock h) (le-refl clock) w,
+    rest (late-next (Query grade window) c stamp h tt),
+  )
+
+  missed-step : (call : Call) (c : Next k n m g clock es call) (ts : List Turn)
+      → ((stamp : ℕ) → stamp + 2 ^ c .k′ < c .clock′ → Span (Outside stamp) ts)
+      → ByCall (Unit {0}) (Unit {0}) (λ stamp. turn call .book .number ≡ 9 → Span (Outside stamp) ts) (λ _. Unit {0}) call
+  missed-step (Make k′ n′ m′ g′) c ts rest = tt
+  missed-step (Clock to) c ts rest = tt
+  missed-step (Delivery grade stamp volume) c ts rest = λ number.
+      let h : stamp + 2 ^ k < clock = ltb-true (stamp + 2 ^ k) clock (turn-late grade stamp volume number) in
+      rest stamp (late-next (Delivery grade stamp volume) c stamp h tt)
+  missed-step (Query grade window) c ts rest = tt
+
+-- ---- the whole list
+
+-- a run from the words of a ledger
+abbrev grown : (k n m g clock : ℕ) → List Entry → List Call → List Turn
+grown k n m g clock es calls = run (wordsOf (shape k n m g) clock es) (ledger (shape k n m g) clock es) calls
+
+abbrev after : {k n m g clock : ℕ} {es : List Entry} {call : Call} → Next k n m g clock es call → List Call → List Turn
+after c calls = grown (c .k′) (c .n′) (c .m′) (c .g′) (c .clock′) (c .es′) calls
+
+-- a stamp that was late lies outside every window of the rest of the span
+outside : (calls : List Call) (k n m g clock : ℕ) (es : List Entry) → Good k n m g clock es → (stamp : ℕ) → stamp + 2 ^ k < clock
+    → Span (Outside stamp) (grown k n m g clock es calls)
+unfolding run
+outside [] k n m g clock es good stamp h = tt
+outside (call ∷ calls) k n m g clock es good stamp h =
+    let c = next k n m g clock es good call in
+    rw (c .book, c .exact)
+    (span-step k n m g clock es good call c (after c calls) stamp h (outside calls (c .k′) (c .n′) (c .m′) (c .g′) (c .clock′) (c .es′) (c .good) stamp))
+
+kept : (calls : List Call) (k n m g clock : ℕ) (es : List Entry) → Good k n m g clock es
+    → Kept (grown k n m g clock es calls)
+unfolding run
+kept [] k n m g clock es good = record { same = tt; bound = tt; missed = tt }
+kept (call ∷ calls) k n m g clock es good =
+    let c = next k n m g clock es good call in
+    let rest = kept calls (c .k′) (c .n′) (c .m′) (c .g′) (c .clock′) (c .es′) (c .good) in
+    let later = outside calls (c .k′) (c .n′) (c .m′) (c .g′) (c .clock′) (c .es′) (c .good) in
+    rw (c .book, c .exact) (record {
+      same = (same-number k n m g clock es good call, rest .same);
+      bound = (turn-bound k n m g clock es good call, rest .bound);
+      missed = (missed-step k n m g clock es good call c (after c calls) later, rest .missed);
+    })
+
+-- demand 3, for every list of calls from the words that an accepted make left on any words
+pub demand-3 : Claim
+unfolding Claim perform
+demand-3 before k n m g number calls =
+    let call : Call = Make k n m g in
+    let h : firstOf (refusals (bookView before) call) ≡ 0 = sym (perform-number before call) ∙ number in
+    let words : perform before call .left ≡ wordsOf (shape k n m g) 0 [] =
+    ap (λ o. o .left) (settle-accepted (refusals (bookView before) call) before (accept before call) h) ∙ made-words (shape k n m g) in
+    rw words (kept calls k n m g 0 [] (made-good k n m g (accepted-make (bookView before) k n m g h .0)))

@@ -1,0 +1,10 @@
+pub mod First
+pub mod Time
+pub mod Grown
+pub mod Served
+pub mod Book
+pub mod State
+pub mod Agree
+pub mod Next
+pub mod Window
+pub mod Demand

@@ -1,0 +1,128 @@
+-- What each accepted call leaves: the words of the ledger that it leaves. Rests on the block as a function of the ledger.
+use mathlib.Core.Bool.{Bool, true, false, cond}
+use mathlib.Core.Path.{_≡_, refl, sym, ap, ap₂, _∙_}
+use mathlib.Core.Logic.{⊎-elim}
+use mathlib.Core.List.{List, [], _∷_, _++_}
+use Prim.Native.Nat.{ℕ, zero, suc, _+_, _%_, _^_, _≤_, _<_}
+use native.Mathlib.Omega.{arith}
+use lib.Dec.{eqb}
+use lib.ListN.{replicate}
+use borrow.Author.Tests.{eq-eqb, ne-eqb, eqb-true}
+use Rattle.shape.specs.declared.Shape.{Shape}
+use Rattle.shape.specs.Limits.{shape, within}
+use Rattle.shape.specs.LimitsLaws.{both, Limits, within-limits}
+use Rattle.model.specs.Block.{Half, Block, upFrom, interval, emptyHalf, advance, deliver}
+use Rattle.model.specs.Words.{withBlock, shapeOf, clockOf, encodeHead, encodeBlock, join}
+use Rattle.model.specs.Sound.{maxClock}
+use Rattle.model.specs.Calls.{blockAt, made, clocked, delivered}
+use Rattle.model.specs.Ledger.{Entry, volumeOf, ofInterval}
+use Rattle.model.specs.Claim.{Each}
+use Rattle.laws.specs.Cases.{eq-or-ne}
+use Rattle.laws.specs.Parts.{upFrom-cong, replicate-upFrom}
+use Rattle.laws.specs.BookWords.{bookOf, withBlock-bookOf}
+use Rattle.ledger.specs.Time.{interval-mono, interval-near}
+use Rattle.ledger.specs.Grown.{halfFor-none}
+use Rattle.ledger.specs.Served.{served, served-near}
+use Rattle.ledger.specs.Book.{halfAt, blockFor, blockFor-clock, blockFor-more, blockFor-other}
+use Rattle.ledger.specs.State.{Good, wordsOf, block-size, words-block}
+
+-- the same blocks, grade by grade, are the same words
+wordsOf-cong : (s : Shape) (clock : ℕ) (es : List Entry) (f : ℕ → List ℕ) → ((grade : ℕ) → grade < s .g → f grade ≡ encodeBlock s (blockFor s clock es grade))
+    → bookOf s clock f ≡ wordsOf s clock es
+unfolding wordsOf
+wordsOf-cong s clock es f h =
+    ap (λ (blocks : List (List ℕ)). encodeHead s clock ++ join blocks)
+    (upFrom-cong f (λ grade. encodeBlock s (blockFor s clock es grade)) 0 (s .g) (λ grade low high. h grade (omega arith)))
+
+-- ---- make
+
+empty-block : (s : Shape) (clock grade : ℕ) → blockFor s clock [] grade ≡ record { even = emptyHalf s; odd = emptyHalf s }
+unfolding blockFor
+empty-block s clock grade = ap₂ (λ (x y : Half). record { even = x; odd = y }) (empty 0) (empty 1)
+  where
+    empty : (parity : ℕ) → halfAt s clock [] grade parity ≡ emptyHalf s
+    empty parity = halfFor-none s (ofInterval s grade (served (interval s clock) parity)) [] tt
+
+pub made-words : (s : Shape) → made s ≡ wordsOf s 0 []
+unfolding made
+made-words s =
+    let block : List ℕ = encodeBlock s (record { even = emptyHalf s; odd = emptyHalf s }) in
+    rw (replicate-upFrom block 0 (s .g)) (wordsOf-cong s 0 [] (λ grade. block) (λ grade h. ap (encodeBlock s) (sym (empty-block s 0 grade))))
+
+pub made-good : (k n m g : ℕ) → within k n m g ≡ true → Good k n m g 0 []
+made-good k n m g h = record { limits = within-limits k n m g h; early = omega arith; past = tt; few = λ grade j. omega arith }
+
+module _ (k n m g clock : ℕ) (es : List Entry) (good : Good k n m g clock es) where
+  abbrev s : Shape
+  s = shape k n m g
+
+  abbrev ws : List ℕ
+  ws = wordsOf s clock es
+
+  pub shape-is : shapeOf ws ≡ s
+  unfolding wordsOf
+  shape-is = refl
+
+  pub clock-is : clockOf ws ≡ clock
+  unfolding wordsOf
+  clock-is = refl
+
+  pub block-is : (grade : ℕ) → grade < g → blockAt ws grade ≡ blockFor s clock es grade
+  unfolding wordsOf
+  block-is grade h = words-block k n m g clock es good grade h
+
+  -- ---- clock
+
+  module _ (to : ℕ) (up : clock ≤ to) where
+    pub clocked-words : clocked s to ws ≡ wordsOf s to es
+    unfolding clocked
+    clocked-words = wordsOf-cong s to es (λ grade. encodeBlock s (advance s (clockOf ws) to (blockAt ws grade)))
+        (λ grade h. ap (encodeBlock s) (rw (clock-is, block-is grade h) (sym (blockFor-clock s clock to es grade up (good .past)))))
+
+    later : (fs : List Entry) → Each (λ e. e .stamp ≤ clock) fs → Each (λ e. e .stamp ≤ to) fs
+    later [] h = tt
+    later (e ∷ fs) h = (omega (arith, h .0), later fs (h .1))
+
+    pub clocked-good : to ≤ maxClock → Good k n m g to es
+    clocked-good early = record { limits = good .limits; early = early; past = later es (good .past); few = good .few }
+
+  -- ---- delivery
+
+  module _ (e : Entry) (inside : e .grade < g) (low : e .stamp ≤ clock) (high : clock ≤ e .stamp + 2 ^ k) where
+    serves : served (interval s clock) (interval s (e .stamp) % 2) ≡ interval s (e .stamp)
+    serves = served-near (interval s clock) (interval s (e .stamp)) (interval-mono s low) (interval-near s (e .stamp) clock high)
+
+    abbrev new : List ℕ
+    new = encodeBlock s (deliver s (e .stamp) (e .volume) (blockFor s clock es (e .grade)))
+
+    changed : (grade : ℕ) → cond (eqb grade (e .grade)) new (encodeBlock s (blockFor s clock es grade)) ≡ encodeBlock s (blockFor s clock (e ∷ es) grade)
+    changed grade =
+        ⊎-elim
+        (λ (own : grade ≡ e .grade). rw (own, eq-eqb (e .grade) (e .grade) refl) (ap (encodeBlock s) (sym (blockFor-more s clock es e serves))))
+        (λ (other : grade ≡ e .grade → ⊥).
+        rw (ne-eqb grade (e .grade) other) (ap (encodeBlock s) (sym (blockFor-other s clock es e grade (λ same. other (sym same))))))
+        (eq-or-ne grade (e .grade))
+
+    placed : withBlock s (e .grade) new ws ≡ wordsOf s clock (e ∷ es)
+    unfolding wordsOf
+    placed =
+        withBlock-bookOf s clock (λ j. encodeBlock s (blockFor s clock es j)) (λ j h. block-size k n m g clock es good j) (e .grade) inside new
+        ∙ wordsOf-cong s clock (e ∷ es) (λ j. cond (eqb j (e .grade)) new (encodeBlock s (blockFor s clock es j))) (λ grade h. changed grade)
+
+    pub delivered-words : delivered s (e .grade) (e .stamp) (e .volume) ws ≡ wordsOf s clock (e ∷ es)
+    unfolding delivered
+    delivered-words = rw (block-is (e .grade) inside) placed
+
+    pub delivered-good : volumeOf (ofInterval s (e .grade) (interval s (e .stamp))) es + e .volume ≤ 2 ^ m → Good k n m g clock (e ∷ es)
+    delivered-good room = record { limits = good .limits; early = good .early; past = (low, good .past); few = few }
+      where
+        few : (grade j : ℕ) → volumeOf (ofInterval s grade j) (e ∷ es) ≤ 2 ^ m
+        few grade j = go (ofInterval s grade j e) refl
+          where
+            go : (t : Bool) → ofInterval s grade j e ≡ t → cond t (e .volume) 0 + volumeOf (ofInterval s grade j) es ≤ 2 ^ m
+            go false h = omega (arith, good .few grade j)
+            go true h =
+                let parts = both h in
+                let same : volumeOf (ofInterval s (e .grade) (interval s (e .stamp))) es ≡ volumeOf (ofInterval s grade j) es =
+                rw (eqb-true (e .grade) grade (parts .0), eqb-true (interval s (e .stamp)) j (parts .1)) in
+                omega arith

@@ -1,0 +1,180 @@
+-- What a window covers, by interval and offset; and the sum of a question beside the ledger's. Rests on the relative bound of fed levels.
+use mathlib.Core.Bool.{Bool, true, false, cond, _&&_}
+use mathlib.Core.Path.{_≡_, refl, sym, ap, _∙_}
+use mathlib.Core.Logic.{⊎-elim}
+use mathlib.Core.List.{List, [], _∷_}
+use Prim.Native.Nat.{ℕ, zero, suc, _+_, _-_, _*_, _%_, _^_, _≤_, _<_}
+use native.Mathlib.Nat.{le-refl, mul-le-mul-right}
+use native.Mathlib.Omega.{arith}
+use lib.Dec.{leb, eqb}
+use lib.Pow.{pow-pos}
+use borrow.Author.Tests.{le-leb, lt-leb, eq-eqb, ne-eqb}
+use Rattle.shape.specs.declared.Shape.{Shape}
+use Rattle.shape.specs.Limits.{shape}
+use Rattle.model.specs.Block.{Half, interval, offsetOf, opening, covers, halfOf, answer, sumFrom, serving}
+use Rattle.model.specs.Ledger.{Entry, volumeOf, ofInterval, ofWindow}
+use Rattle.model.specs.Claim.{Each, Admits}
+use Rattle.laws.specs.Cases.{lt-or-ge, eq-or-ne}
+use Rattle.theory.specs.Fed.{counted}
+use Rattle.theory.specs.Relative.{relative, admits-more}
+use Rattle.ledger.specs.Time.{offset-lt, interval-mono, interval-lt, interval-near, offset-le, tick-le}
+use Rattle.ledger.specs.Grown.{events, events-inside, halfFed, halfFor, volumeOf-cong, counted-events, counted-all}
+use Rattle.ledger.specs.Book.{blockFor, halfOf-served}
+use Rattle.ledger.specs.State.{Good}
+
+-- two tests with the same meaning
+leb-same : (x y u v : ℕ) → (x ≤ y → u ≤ v) → (u ≤ v → x ≤ y) → leb x y ≡ leb u v
+leb-same x y u v f g =
+    ⊎-elim
+    (λ (l : y < x). lt-leb x y l ∙ sym (lt-leb u v (⊎-elim (λ (p : v < u). p) (λ (q : u ≤ v). absurd (omega (arith, g q))) (lt-or-ge v u))))
+    (λ (h : x ≤ y). le-leb x y h ∙ sym (le-leb u v (f h)))
+    (lt-or-ge y x)
+
+module _ (s : Shape) (start stamp : ℕ) where
+  -- a stamp of the interval in which the window opens is covered by its offset
+  pub opens-within : interval s stamp ≡ interval s start → leb start stamp ≡ leb (offsetOf s start) (offsetOf s stamp)
+  opens-within e = leb-same start stamp (offsetOf s start) (offsetOf s stamp) (offset-le s start stamp (sym e)) (tick-le s start stamp (sym e))
+
+  -- a stamp of a later interval is covered, one of an earlier interval is not
+  pub opens-before : interval s start < interval s stamp → leb start stamp ≡ true
+  opens-before h = le-leb start stamp (omega (arith, interval-lt s start stamp h))
+
+  pub opens-after : interval s stamp < interval s start → leb start stamp ≡ false
+  opens-after h = lt-leb start stamp (interval-lt s stamp start h)
+
+-- ---- the ledger's sum by interval and offset
+
+-- the entries of a grade and an interval from an offset on
+abbrev pub fromOffset : Shape → ℕ → ℕ → ℕ → Entry → Bool
+fromOffset s grade j a e = ofInterval s grade j e && leb a (offsetOf s (e .stamp))
+
+-- two lists of tests added up
+volumeOf-sum : (p q r : Entry → Bool) (es : List Entry) → Each (λ e. cond (p e) (e .volume) 0 ≡ cond (q e) (e .volume) 0 + cond (r e) (e .volume) 0) es
+    → volumeOf p es ≡ volumeOf q es + volumeOf r es
+volumeOf-sum p q r [] h = refl
+volumeOf-sum p q r (e ∷ es) h = omega (arith, h .0, volumeOf-sum p q r es (h .1))
+
+module _ (s : Shape) (clock grade window : ℕ) where
+  abbrev start : ℕ
+  start = opening clock window
+
+  abbrev a : ℕ
+  a = offsetOf s start
+
+  abbrev current : ℕ
+  current = interval s clock
+
+  -- a window that opens in the current interval
+  module _ (same : interval s start ≡ current) where
+    own : (e : Entry) → e .stamp ≤ clock → ofWindow clock grade window e ≡ fromOffset s grade current a e
+    own e past =
+        ⊎-elim
+        (λ (here : interval s (e .stamp) ≡ current).
+        rw (le-leb (e .stamp) clock past, opens-within s start (e .stamp) (here ∙ sym same), eq-eqb (interval s (e .stamp)) current here)
+        (kept (eqb (e .grade) grade) (leb a (offsetOf s (e .stamp)))))
+        (λ (there : interval s (e .stamp) ≡ current → ⊥).
+        rw (opens-after s start (e .stamp) (omega (arith, interval-mono s past, there)), ne-eqb (interval s (e .stamp)) current there)
+        (gone (eqb (e .grade) grade) (leb a (offsetOf s (e .stamp)))))
+        (eq-or-ne (interval s (e .stamp)) current)
+      where
+        kept : (g t : Bool) → (g && (t && true)) ≡ ((g && true) && t)
+        kept true true = refl
+        kept true false = refl
+        kept false t = refl
+
+        gone : (g t : Bool) → (g && false) ≡ ((g && false) && t)
+        gone true t = refl
+        gone false t = refl
+
+    pub window-own : (es : List Entry) → Each (λ e. e .stamp ≤ clock) es
+        → volumeOf (ofWindow clock grade window) es ≡ volumeOf (fromOffset s grade current a) es
+    window-own es past = volumeOf-cong s (ofWindow clock grade window) (fromOffset s grade current a) es (each es past)
+      where
+        each : (es : List Entry) → Each (λ e. e .stamp ≤ clock) es → Each (λ e. ofWindow clock grade window e ≡ fromOffset s grade current a e) es
+        each [] h = tt
+        each (e ∷ es) h = (own e (h .0), each es (h .1))
+
+  -- a window that opens in the interval before
+  module _ (before : interval s start + 1 ≡ current) where
+    abbrev Parts : Entry → Type 0
+    Parts e =
+        cond (ofWindow clock grade window e) (e .volume) 0
+        ≡ cond (fromOffset s grade (interval s start) a e) (e .volume) 0 + cond (ofInterval s grade current e) (e .volume) 0
+
+    parts : (e : Entry) → e .stamp ≤ clock → Parts e
+    parts e past =
+        let i : ℕ = interval s (e .stamp) in
+        let g : Bool = eqb (e .grade) grade in
+        let t : Bool = leb a (offsetOf s (e .stamp)) in
+        rw (le-leb (e .stamp) clock past)
+        (⊎-elim
+        (λ (here : i ≡ current).
+        rw (opens-before s start (e .stamp) (omega arith), ne-eqb i (interval s start) (λ q. omega arith), eq-eqb i current here) (later g t))
+        (λ (there : i ≡ current → ⊥).
+        ⊎-elim
+        (λ (own : i ≡ interval s start).
+        rw (opens-within s start (e .stamp) own, eq-eqb i (interval s start) own, ne-eqb i current there) (within g t))
+        (λ (far : i ≡ interval s start → ⊥).
+        rw (opens-after s start (e .stamp) (omega (arith, interval-mono s past, there, far)), ne-eqb i (interval s start) far, ne-eqb i current there)
+        (outside g t))
+        (eq-or-ne i (interval s start)))
+        (eq-or-ne i current))
+      where
+        v : ℕ
+        v = e .volume
+
+        later : (g t : Bool) → cond (g && true) v 0 ≡ cond ((g && false) && t) v 0 + cond (g && true) v 0
+        later true t = omega arith
+        later false t = omega arith
+
+        within : (g t : Bool) → cond (g && (t && true)) v 0 ≡ cond ((g && true) && t) v 0 + cond (g && false) v 0
+        within true true = omega arith
+        within true false = omega arith
+        within false t = omega arith
+
+        outside : (g t : Bool) → cond (g && false) v 0 ≡ cond ((g && false) && t) v 0 + cond (g && false) v 0
+        outside true t = omega arith
+        outside false t = omega arith
+
+    pub window-before : (es : List Entry) → Each (λ e. e .stamp ≤ clock) es
+        → volumeOf (ofWindow clock grade window) es ≡ volumeOf (fromOffset s grade (interval s start) a) es + volumeOf (ofInterval s grade current) es
+    window-before es past =
+        volumeOf-sum (ofWindow clock grade window) (fromOffset s grade (interval s start) a) (ofInterval s grade current) es (each es past)
+      where
+        each : (es : List Entry) → Each (λ e. e .stamp ≤ clock) es → Each Parts es
+        each [] h = tt
+        each (e ∷ es) h = (parts e (h .0), each es (h .1))
+
+-- ---- the answer beside the ledger's sum
+
+module _ (k n m g clock : ℕ) (es : List Entry) (good : Good k n m g clock es) (room : k + 1 < n) where
+  -- the sum of the half for interval j from an offset on
+  half-admits : (grade j a : ℕ) → a < 2 ^ k
+      → Admits n k (sumFrom a (serving a (halfFor (shape k n m g) (ofInterval (shape k n m g) grade j) es .levels) .buckets))
+      (volumeOf (fromOffset (shape k n m g) grade j a) es)
+  unfolding halfFed
+  half-admits grade j a h =
+      let s : Shape = shape k n m g in
+      let p : Entry → Bool = ofInterval s grade j in
+      let twice : 2 * 2 ^ m ≤ n * 2 ^ m = mul-le-mul-right (2 ^ m) (good .limits .low-n) in
+      let small : counted (events s p es) 0 < n * 2 ^ m = omega (arith, counted-all s p es, good .few grade j, pow-pos m) in
+      rw (← counted-events s p a es) (relative k n m (events s p es) (events-inside s p es) room small a h)
+
+  pub answer-admits : (grade window : ℕ) → window ≤ 2 ^ k
+      → Admits n k (answer (shape k n m g) clock (opening clock window) (blockFor (shape k n m g) clock es grade)) (volumeOf (ofWindow clock grade window) es)
+  unfolding answer halfFed
+  answer-admits grade window w =
+      let s : Shape = shape k n m g in
+      let start : ℕ = opening clock window in
+      let from : ℕ = interval s start in
+      let current : ℕ = interval s clock in
+      let low : from ≤ current = interval-mono s (omega arith) in
+      let high : current ≤ from + 1 = interval-near s start clock (omega arith) in
+      let half = half-admits grade from (offsetOf s start) (offset-lt s start) in
+      rw (halfOf-served s clock es grade from low high, halfOf-served s clock es grade current (le-refl current) (omega arith))
+      (⊎-elim
+      (λ (same : from ≡ current). rw (eq-eqb from current same, window-own s clock grade window same es (good .past), ← same) half)
+      (λ (other : from ≡ current → ⊥).
+      rw (ne-eqb from current other, window-before s clock grade window (omega (arith, other)) es (good .past))
+      (admits-more n k _ _ (volumeOf (ofInterval s grade current) es) half))
+      (eq-or-ne from current))

@@ -1,0 +1,4 @@
+pub mod Near
+pub mod Fed
+pub mod Relative
+pub mod Highest

@@ -9,7 +9,7 @@ use native.Mathlib.Nat.{add-zero, add-suc}
 use native.Mathlib.Omega.{arith}
 use borrow.Author.Tests.{lt-ltb, le-ltb, eq-eqb, ne-eqb}
 use lib.ListN.{length, length-append}
-use Rattle.model.specs.Level.{Bucket, Level, bucket, level, gained, put, holds, split, add, grow, firstAfter, evict, unit, insert}
+use Rattle.model.specs.Level.{Bucket, Level, bucketOf, levelOf, gained, put, holds, split, add, grow, firstAfter, evict, unit, insert}
 use Rattle.model.specs.LevelLaws.{unit-below}
 use Rattle.model.specs.Claim.{Each}
 use Rattle.laws.specs.Cases.{lt-or-ge}
@@ -41,11 +41,11 @@ module _ (n i x : ℕ) where
   insert-below zero l h = refl
   insert-below (suc v) l h = rw (insert-below v l h) (unit-below n i x l h)
 
-pub evict-none : (n i f : ℕ) (bs : List Bucket) → length bs ≤ n → evict n i f bs ≡ level f bs
+pub evict-none : (n i f : ℕ) (bs : List Bucket) → length bs ≤ n → evict n i f bs ≡ levelOf f bs
 evict-none n i f [] h = refl
 evict-none n i f (b ∷ bs) h = rw (ne-eqb (suc (length bs)) (n + 1) (omega arith))
 
-pub evict-lowest : (n i f : ℕ) (b : Bucket) (bs : List Bucket) → length bs ≡ n → evict n i f (b ∷ bs) ≡ level (firstAfter i b bs) bs
+pub evict-lowest : (n i f : ℕ) (b : Bucket) (bs : List Bucket) → length bs ≡ n → evict n i f (b ∷ bs) ≡ levelOf (firstAfter i b bs) bs
 evict-lowest n i f b bs h = rw (eq-eqb (suc (length bs)) (n + 1) (omega arith))
 
 -- one bucket, whichever it is, makes a list one longer
@@ -56,7 +56,7 @@ module _ (n i f x : ℕ) (kept : f ≤ x) (before after : List Bucket) where
   -- what each unit adds to the weight of its bucket, v units add, as long as the bucket is not split
   raises : (b : Bucket) (v : ℕ) → length (before ++ b ∷ after) ≤ n
       → ((w : ℕ) → w < v → grow i x (before ++ raised w b ∷ after) ≡ before ++ gained (raised w b) ∷ after)
-      → insert n i x v (level f (before ++ b ∷ after)) ≡ level f (before ++ raised v b ∷ after)
+      → insert n i x v (levelOf f (before ++ b ∷ after)) ≡ levelOf f (before ++ raised v b ∷ after)
   unfolding insert unit
   raises b zero few each = rw (add-zero (b .weight))
   raises b (suc v) few each =
@@ -82,7 +82,7 @@ module _ (n j x f : ℕ) (kept : f ≤ x) (before : List Bucket) (uncovered : Un
     (covers : holds b x ≡ true) (few : length (before ++ b ∷ after) ≤ n) where
   -- a bucket that is not filled, or has length 1, takes v at once
   pub insert-held : (v : ℕ) → (1 < b .width → b .weight + v < 2 ^ suc (suc j))
-      → insert n (suc j) x v (level f (before ++ b ∷ after)) ≡ level f (before ++ raised v b ∷ after)
+      → insert n (suc j) x v (levelOf f (before ++ b ∷ after)) ≡ levelOf f (before ++ raised v b ∷ after)
   insert-held v room =
       raises n (suc j) f x kept before after b v few
       (λ w h. add-at (suc j) x (raised w b) after covers before uncovered
@@ -90,7 +90,7 @@ module _ (n j x f : ℕ) (kept : f ≤ x) (before : List Bucket) (uncovered : Un
 
   -- what fills the bucket splits it, and the rest goes on
   fills : (v : ℕ) → 1 < b .width → suc (b .weight + v) ≡ 2 ^ suc (suc j)
-      → insert n (suc j) x (suc v) (level f (before ++ b ∷ after)) ≡ evict n (suc j) f (before ++ (halves (suc j) b ++ after))
+      → insert n (suc j) x (suc v) (levelOf f (before ++ b ∷ after)) ≡ evict n (suc j) f (before ++ (halves (suc j) b ++ after))
   unfolding insert unit
   fills v long full =
       rw (
@@ -102,13 +102,13 @@ module _ (n j x f : ℕ) (kept : f ≤ x) (before : List Bucket) (uncovered : Un
       )
 
   pub insert-split : (v : ℕ) → 1 < b .width → b .weight < 2 ^ suc (suc j) → 2 ^ suc (suc j) ≤ b .weight + v
-      → insert n (suc j) x v (level f (before ++ b ∷ after))
+      → insert n (suc j) x v (levelOf f (before ++ b ∷ after))
       ≡ insert n (suc j) x (b .weight + v - 2 ^ suc (suc j)) (evict n (suc j) f (before ++ (halves (suc j) b ++ after)))
   insert-split v long small full =
       let first : ℕ = 2 ^ suc (suc j) - b .weight - 1 in
       let rest : ℕ = b .weight + v - 2 ^ suc (suc j) in
       let parts : v ≡ suc first + rest = omega arith in
-      let l = level f (before ++ b ∷ after) in
+      let l = levelOf f (before ++ b ∷ after) in
       ap (λ (z : ℕ). insert n (suc j) x z l) parts ∙ insert-add n (suc j) x (suc first) rest l
       ∙ ap (insert n (suc j) x rest) (fills first long (omega arith))
 
@@ -123,44 +123,44 @@ put-past x (c ∷ before) u rest =
 put-at : (x : ℕ) (b : Bucket) (after : List Bucket) → b .offset ≡ x → put x (b ∷ after) ≡ gained b ∷ after
 put-at x b after same = rw (le-ltb x (b .offset) (omega arith), eq-eqb x (b .offset) (sym same))
 
-put-new : (x : ℕ) (after : List Bucket) → Over x after → put x after ≡ bucket x 1 1 ∷ after
+put-new : (x : ℕ) (after : List Bucket) → Over x after → put x after ≡ bucketOf x 1 1 ∷ after
 put-new x [] o = refl
 put-new x (b ∷ after) o = rw (lt-ltb x (b .offset) o)
 
 module _ (n x f : ℕ) (kept : f ≤ x) (before : List Bucket) (under : Under x before) where
   -- the bucket of offset x takes v
   pub insert-put : (b : Bucket) (after : List Bucket) → b .offset ≡ x → length (before ++ b ∷ after) ≤ n → (v : ℕ)
-      → insert n 0 x v (level f (before ++ b ∷ after)) ≡ level f (before ++ raised v b ∷ after)
+      → insert n 0 x v (levelOf f (before ++ b ∷ after)) ≡ levelOf f (before ++ raised v b ∷ after)
   insert-put b after same few v = raises n 0 f x kept before after b v few (λ w h. rw (put-past x before under (raised w b ∷ after), put-at x (raised w b) after same))
 
 -- once the new bucket has its first unit: it stays and takes the rest, or is given up itself, and the rest is ignored
 made : (n x f : ℕ) → f ≤ x → (before : List Bucket) → Under x before → (after : List Bucket) (rest : ℕ) → length (before ++ after) ≤ n
-    → insert n 0 x rest (evict n 0 f (before ++ bucket x 1 1 ∷ after)) ≡ evict n 0 f (before ++ bucket x 1 (1 + rest) ∷ after)
+    → insert n 0 x rest (evict n 0 f (before ++ bucketOf x 1 1 ∷ after)) ≡ evict n 0 f (before ++ bucketOf x 1 (1 + rest) ∷ after)
 made n x f kept before under after rest few =
     ⊎-elim
     (λ (room : length (before ++ after) < n).
     let fits : (b : Bucket) → length (before ++ b ∷ after) ≤ n = λ b. omega (arith, one-longer before b after) in
-    rw (evict-none n 0 f (before ++ bucket x 1 1 ∷ after) (fits _), evict-none n 0 f (before ++ bucket x 1 (1 + rest) ∷ after) (fits _))
-    (insert-put n x f kept before under (bucket x 1 1) after refl (fits _) rest))
+    rw (evict-none n 0 f (before ++ bucketOf x 1 1 ∷ after) (fits _), evict-none n 0 f (before ++ bucketOf x 1 (1 + rest) ∷ after) (fits _))
+    (insert-put n x f kept before under (bucketOf x 1 1) after refl (fits _) rest))
     (λ (none : n ≤ length (before ++ after)). given-up before under (omega arith))
     (lt-or-ge (length (before ++ after)) n)
   where
     given-up : (cs : List Bucket) → Under x cs → length (cs ++ after) ≡ n
-        → insert n 0 x rest (evict n 0 f (cs ++ bucket x 1 1 ∷ after)) ≡ evict n 0 f (cs ++ bucket x 1 (1 + rest) ∷ after)
-    given-up [] u e = rw (evict-lowest n 0 f (bucket x 1 1) after e, evict-lowest n 0 f (bucket x 1 (1 + rest)) after e)
-        (insert-below n 0 x rest (level (x + 1) after) (omega arith))
+        → insert n 0 x rest (evict n 0 f (cs ++ bucketOf x 1 1 ∷ after)) ≡ evict n 0 f (cs ++ bucketOf x 1 (1 + rest) ∷ after)
+    given-up [] u e = rw (evict-lowest n 0 f (bucketOf x 1 1) after e, evict-lowest n 0 f (bucketOf x 1 (1 + rest)) after e)
+        (insert-below n 0 x rest (levelOf (x + 1) after) (omega arith))
     given-up (c ∷ cs) u e =
         let fits : (b : Bucket) → length (cs ++ b ∷ after) ≡ n = λ b. omega (arith, one-longer cs b after) in
-        rw (evict-lowest n 0 f c (cs ++ bucket x 1 1 ∷ after) (fits _), evict-lowest n 0 f c (cs ++ bucket x 1 (1 + rest) ∷ after) (fits _))
-        (insert-put n x (c .offset + 1) (omega arith) cs (u .1) (bucket x 1 1) after refl (omega (arith, fits (bucket x 1 1))) rest)
+        rw (evict-lowest n 0 f c (cs ++ bucketOf x 1 1 ∷ after) (fits _), evict-lowest n 0 f c (cs ++ bucketOf x 1 (1 + rest) ∷ after) (fits _))
+        (insert-put n x (c .offset + 1) (omega arith) cs (u .1) (bucketOf x 1 1) after refl (omega (arith, fits (bucketOf x 1 1))) rest)
 
 module _ (n x f : ℕ) (kept : f ≤ x) (before : List Bucket) (under : Under x before) where
   -- where x has no bucket, one of weight v is made in its place, and the lowest is given up if there is no room
   pub insert-new : (after : List Bucket) → Over x after → length (before ++ after) ≤ n → (v : ℕ) → 0 < v
-      → insert n 0 x v (level f (before ++ after)) ≡ evict n 0 f (before ++ bucket x 1 v ∷ after)
+      → insert n 0 x v (levelOf f (before ++ after)) ≡ evict n 0 f (before ++ bucketOf x 1 v ∷ after)
   unfolding insert unit
   insert-new after over few v some =
       let rest : ℕ = v - 1 in
       let parts : v ≡ 1 + rest = omega arith in
-      rw (parts, insert-add n 0 x 1 rest (level f (before ++ after)), le-ltb x f kept, put-past x before under after, put-new x after over)
+      rw (parts, insert-add n 0 x 1 rest (levelOf f (before ++ after)), le-ltb x f kept, put-past x before under after, put-new x after over)
       (made n x f kept before under after rest few)

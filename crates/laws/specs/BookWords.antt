@@ -12,7 +12,7 @@ use lib.ListN.{length, getD, take, drop, length-drop, take-append-drop}
 use lib.Seq.{take-append-add, drop-append-add, length-take-le, take-all}
 use borrow.Author.Tests.{le-leb, leb-true, eqb-true}
 use Rattle.shape.specs.declared.Shape.{Shape}
-use Rattle.shape.specs.Limits.{shape, between, within}
+use Rattle.shape.specs.Limits.{shaped, between, within}
 use Rattle.shape.specs.LimitsLaws.{Limits, both, within-limits}
 use Rattle.shape.specs.Layout.{blockWords, blockStart, bookWords}
 use Rattle.model.specs.Block.{upFrom}
@@ -64,7 +64,7 @@ abbrev pub bookOf : Shape → ℕ → (ℕ → List ℕ) → List ℕ
 bookOf s clock f = encodeHead s clock ++ join (upFrom f 0 (s .g))
 
 -- the head names its shape
-pub shapeOf-encode : (k n m g clock : ℕ) (rest : List ℕ) → shapeOf (encodeHead (shape k n m g) clock ++ rest) ≡ shape k n m g
+pub shapeOf-encode : (k n m g clock : ℕ) (rest : List ℕ) → shapeOf (encodeHead (shaped k n m g) clock ++ rest) ≡ shaped k n m g
 shapeOf-encode k n m g clock rest = refl
 
 -- and its clock
@@ -111,7 +111,7 @@ limits-within k n m g l =
     (and-true (between-true 2 n 1024 (l .low-n) (l .high-n)) (and-true (between-true 1 m 24 (l .low-m) (l .high-m)) (between-true 1 g 8 (l .low-g) (l .high-g))))
 
 -- the head of a shape within its limits is sound
-pub soundHead-encode : (k n m g clock : ℕ) (rest : List ℕ) → Limits k n m g → clock ≤ maxClock → soundHead (encodeHead (shape k n m g) clock ++ rest) ≡ true
+pub soundHead-encode : (k n m g clock : ℕ) (rest : List ℕ) → Limits k n m g → clock ≤ maxClock → soundHead (encodeHead (shaped k n m g) clock ++ rest) ≡ true
 unfolding soundHead
 soundHead-encode k n m g clock rest l low = and-true (limits-within k n m g l) (and-true (le-leb clock maxClock low) refl)
 

@@ -5,16 +5,16 @@ use mathlib.Core.List.{List, [], _∷_}
 use Prim.Native.Nat.{ℕ, suc, _+_, _/_, _^_, _≤_, _<_}
 use borrow.Author.Tests.{lt-ltb, le-ltb, le-leb}
 use lib.Dec.{T, leb, ltb, eqb, leb→le, ltb→lt, eqb→eq, le→leb, lt→ltb, eqb-refl}
-use Rattle.model.specs.Level.{Bucket, bucket, holds, split}
+use Rattle.model.specs.Level.{Bucket, bucketOf, holds, split}
 use Rattle.laws.specs.Cases.{by-both, and-true, and-false}
 
 -- the bucket with v more
 abbrev pub raised : ℕ → Bucket → Bucket
-raised v b = bucket (b .offset) (b .width) (b .weight + v)
+raised v b = bucketOf (b .offset) (b .width) (b .weight + v)
 
 -- the two halves of a full bucket of level i
 abbrev pub halves : ℕ → Bucket → List Bucket
-halves i b = bucket (b .offset) (b .width / 2) (2 ^ i) ∷ bucket (b .offset + b .width / 2) (b .width / 2) (2 ^ i) ∷ []
+halves i b = bucketOf (b .offset) (b .width / 2) (2 ^ i) ∷ bucketOf (b .offset + b .width / 2) (b .width / 2) (2 ^ i) ∷ []
 
 -- the tests of `add` and of `split` by their two cases
 pub by-holds : {A : Type 0} {y z : A} (b : Bucket) (x : ℕ) (P : A → Type 0)

@@ -8,7 +8,7 @@ use native.Mathlib.Omega.{arith}
 use lib.Dec.{lit<}
 use lib.Pow.{pow-pos}
 use lib.ListN.{length}
-use Rattle.model.specs.Level.{Bucket, bucket, gained, add}
+use Rattle.model.specs.Level.{Bucket, bucketOf, gained, add}
 use Rattle.model.specs.Sound.{weightOf}
 use Rattle.laws.specs.Cases.{Near}
 use Rattle.laws.specs.Buckets.{by-holds, by-split}
@@ -92,7 +92,7 @@ module _ (p k : ℕ) where
   -- a bucket of weight 2 * p and more than one tick gives way to its halves
   halves-chain : {c : ℕ → ℕ} {a : ℕ} {b : Bucket} (bs : List Bucket) → 0 < p → Falling c
       → b .weight ≡ 2 * p → 1 < b .width → Part p k c a (weightOf bs) b → Chain p k c (a + b .width) bs
-      → Chain p k c a (bucket (b .offset) (b .width / 2) p ∷ bucket (b .offset + b .width / 2) (b .width / 2) p ∷ bs)
+      → Chain p k c a (bucketOf (b .offset) (b .width / 2) p ∷ bucketOf (b .offset + b .width / 2) (b .width / 2) p ∷ bs)
   halves-chain {c} {a} {b} bs pos falls full long q g =
       let h = b .width / 2 in
       let d = q .shape in

@@ -12,7 +12,7 @@ use borrow.Author.Tests.{eqb-true, leb-true}
 use Rattle.shape.specs.declared.Shape.{Shape}
 use Rattle.shape.specs.Layout.{levelWords}
 use Rattle.shape.specs.LimitsLaws.{both}
-use Rattle.model.specs.Level.{Bucket, Level, level}
+use Rattle.model.specs.Level.{Bucket, Level, levelOf}
 use Rattle.model.specs.Words.{slot, slots, decodeLevel, encodeLevel, slotWords, join}
 use Rattle.model.specs.Sound.{implies, zeros, weightOf, soundBuckets, soundLevel}
 
@@ -71,7 +71,7 @@ slots-flat (b ∷ bs) u v j h =
 pub decode-encode : (n : ℕ) (l : Level) → decodeLevel (encodeLevel n l) ≡ l
 unfolding decodeLevel encodeLevel
 decode-encode n l =
-    ap (level (l .first)) (slots-flat (l .buckets) (length (l .buckets) ∷ l .first ∷ []) (blank n (length (l .buckets))) 0 refl)
+    ap (levelOf (l .first)) (slots-flat (l .buckets) (length (l .buckets) ∷ l .first ∷ []) (blank n (length (l .buckets))) 0 refl)
 
 -- an encoded level has the length of the layout
 pub length-encode : (n : ℕ) (l : Level) → length (l .buckets) ≤ n → length (encodeLevel n l) ≡ 2 + 3 * n

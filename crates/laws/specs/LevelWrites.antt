@@ -7,7 +7,7 @@ use native.Mathlib.Nat.{add-zero, zero-add, suc-add}
 use native.Mathlib.Omega.{arith}
 use lib.ListN.{length, getD, drop, set, replicate, length-append}
 use lib.Seq.{take-at, drop-at}
-use Rattle.model.specs.Level.{Bucket, Level, bucket, level}
+use Rattle.model.specs.Level.{Bucket, Level, bucketOf, levelOf}
 use Rattle.model.specs.Words.{slot, encodeLevel, slotWords}
 use Rattle.laws.specs.LevelWords.{flat, blank, length-flat, flat-append, slot-at}
 use Rattle.laws.specs.Moves.{raise, lower, putSlot, putSlot-raise, putSlot-lower}
@@ -23,7 +23,7 @@ lead count f before = count ∷ f ∷ flat before
 
 -- the words of a level, parted
 pub encode-append : (n f : ℕ) (before after : List Bucket)
-    → encodeLevel n (level f (before ++ after))
+    → encodeLevel n (levelOf f (before ++ after))
     ≡ lead (length before + length after) f before ++ (flat after ++ blank n (length before + length after))
 unfolding encodeLevel
 encode-append n f before after = rw (length-append before after, flat-append before after) (simp append-assoc)
@@ -42,7 +42,7 @@ module _ (n : ℕ) (l : Level) where
   getD-first = refl
 
   -- F, written
-  pub set-first : (v : ℕ) → set (encodeLevel n l) 1 v ≡ encodeLevel n (level v (l .buckets))
+  pub set-first : (v : ℕ) → set (encodeLevel n l) 1 v ≡ encodeLevel n (levelOf v (l .buckets))
   unfolding encodeLevel
   set-first v = refl
 
@@ -51,7 +51,7 @@ module _ (n : ℕ) (l : Level) where
 module _ (n f : ℕ) (before after : List Bucket) where
   -- the words of a level with bucket b between two lists
   abbrev pub wordsWith : Bucket → List ℕ
-  wordsWith b = encodeLevel n (level f (before ++ (b ∷ after)))
+  wordsWith b = encodeLevel n (levelOf f (before ++ (b ∷ after)))
 
   module _ (j : ℕ) (place : length before ≡ j) where
     -- slot j, read
@@ -70,24 +70,24 @@ module _ (n f : ℕ) (before after : List Bucket) where
         rw (encode-append n f before (b ∷ after), e, set-append-add u (slotWords b ++ rest) i v, stored rest) (sym (encode-append n f before (c ∷ after)))
 
     -- one field of slot j, written
-    pub set-offset : (b : Bucket) (v : ℕ) → set (wordsWith b) (2 + 3 * j) v ≡ wordsWith (bucket v (b .width) (b .weight))
-    set-offset b v = rw add-zero at (set-slot 0 v b (bucket v (b .width) (b .weight)) (λ rest. refl))
+    pub set-offset : (b : Bucket) (v : ℕ) → set (wordsWith b) (2 + 3 * j) v ≡ wordsWith (bucketOf v (b .width) (b .weight))
+    set-offset b v = rw add-zero at (set-slot 0 v b (bucketOf v (b .width) (b .weight)) (λ rest. refl))
 
-    pub set-width : (b : Bucket) (v : ℕ) → set (wordsWith b) (2 + 3 * j + 1) v ≡ wordsWith (bucket (b .offset) v (b .weight))
-    set-width b v = set-slot 1 v b (bucket (b .offset) v (b .weight)) (λ rest. refl)
+    pub set-width : (b : Bucket) (v : ℕ) → set (wordsWith b) (2 + 3 * j + 1) v ≡ wordsWith (bucketOf (b .offset) v (b .weight))
+    set-width b v = set-slot 1 v b (bucketOf (b .offset) v (b .weight)) (λ rest. refl)
 
-    pub set-weight : (b : Bucket) (v : ℕ) → set (wordsWith b) (2 + 3 * j + 2) v ≡ wordsWith (bucket (b .offset) (b .width) v)
-    set-weight b v = set-slot 2 v b (bucket (b .offset) (b .width) v) (λ rest. refl)
+    pub set-weight : (b : Bucket) (v : ℕ) → set (wordsWith b) (2 + 3 * j + 2) v ≡ wordsWith (bucketOf (b .offset) (b .width) v)
+    set-weight b v = set-slot 2 v b (bucketOf (b .offset) (b .width) v) (λ rest. refl)
 
     -- all three words
     pub putSlot-encode : (b c : Bucket) → putSlot (wordsWith b) (2 + 3 * j) c ≡ wordsWith c
     unfolding putSlot
     putSlot-encode b c =
-        rw (set-offset b (c .offset), set-width (bucket (c .offset) (b .width) (b .weight)) (c .width)) (set-weight (bucket (c .offset) (c .width) (b .weight)) (c .weight))
+        rw (set-offset b (c .offset), set-width (bucketOf (c .offset) (b .width) (b .weight)) (c .width)) (set-weight (bucketOf (c .offset) (c .width) (b .weight)) (c .weight))
 
     -- a bucket put in at slot j of a level that is not full: the slots from j on move one up, and the count rises
     pub insert-encode : (b : Bucket) (m count : ℕ) → 3 * length after ≡ m → suc (length before + length after) ≡ count → count ≤ n
-        → set (putSlot (raise (encodeLevel n (level f (before ++ after))) (2 + 3 * j) m) (2 + 3 * j) b) 0 count ≡ wordsWith b
+        → set (putSlot (raise (encodeLevel n (levelOf f (before ++ after))) (2 + 3 * j) m) (2 + 3 * j) b) 0 count ≡ wordsWith b
     insert-encode b m count moved one-more room =
         let old : ℕ = length before + length after in
         let a : ℕ = 2 + 3 * j in
@@ -96,7 +96,7 @@ module _ (n f : ℕ) (before after : List Bucket) where
         let free : List ℕ = 0 ∷ 0 ∷ 0 ∷ [] in
         let ws : List ℕ = u ++ (flat after ++ (free ++ rest)) in
         let unused : 3 * (n - old) ≡ suc (suc (suc (3 * (n - count)))) = omega arith in
-        let words : encodeLevel n (level f (before ++ after)) ≡ ws = encode-append n f before after ∙ ap (λ (z : ℕ). u ++ (flat after ++ replicate z 0)) unused in
+        let words : encodeLevel n (levelOf f (before ++ after)) ≡ ws = encode-append n f before after ∙ ap (λ (z : ℕ). u ++ (flat after ++ replicate z 0)) unused in
         let start : length u ≡ a = omega (arith, length-flat before) in
         let size : length (flat after) ≡ m = omega (arith, length-flat after) in
         let upper : drop a ws ≡ flat after ++ (free ++ rest) = drop-at u (flat after ++ (free ++ rest)) a start in
@@ -105,12 +105,12 @@ module _ (n f : ℕ) (before after : List Bucket) where
         let top : drop (a + 3 + m) ws ≡ rest = rw regroup (drop-at (u ++ (flat after ++ free)) rest (a + 3 + m) end) in
         let fits : a + 3 + m ≤ length ws = simp length-append (omega arith) in
         let count-is : length before + suc (length after) ≡ count = omega arith in
-        let new : encodeLevel n (level f (before ++ (b ∷ after))) ≡ lead count f before ++ (slotWords b ++ (flat after ++ rest)) =
+        let new : encodeLevel n (levelOf f (before ++ (b ∷ after))) ≡ lead count f before ++ (slotWords b ++ (flat after ++ rest)) =
         rw count-is at (encode-append n f before (b ∷ after)) in
         rw (words, putSlot-raise ws a m b fits, top, upper, take-at u (flat after ++ (free ++ rest)) a start, take-at (flat after) (free ++ rest) m size) (sym new)
 
     -- a bucket put in at slot j once the lowest bucket is taken out: the slots up to j move one down, and the count stays
-    pub shift-encode : (lowest b : Bucket) → putSlot (lower (encodeLevel n (level f (lowest ∷ (before ++ after)))) 2 (3 * j)) (2 + 3 * j) b ≡ wordsWith b
+    pub shift-encode : (lowest b : Bucket) → putSlot (lower (encodeLevel n (levelOf f (lowest ∷ (before ++ after)))) 2 (3 * j)) (2 + 3 * j) b ≡ wordsWith b
     shift-encode lowest b =
         let count : ℕ = suc (length before) + length after in
         let u : List ℕ = lead count f (lowest ∷ before) in
@@ -124,15 +124,15 @@ module _ (n f : ℕ) (before after : List Bucket) where
 
 module _ (n f : ℕ) (bs : List Bucket) (j : ℕ) (place : length bs ≡ j) (room : j < n) where
   -- a last bucket of zeros, no longer counted
-  clear-encode : set (encodeLevel n (level f (bs ++ (bucket 0 0 0 ∷ [])))) 0 j ≡ encodeLevel n (level f bs)
+  clear-encode : set (encodeLevel n (levelOf f (bs ++ (bucketOf 0 0 0 ∷ [])))) 0 j ≡ encodeLevel n (levelOf f bs)
   unfolding encodeLevel
   clear-encode =
       let unused : 3 * (n - length bs) ≡ suc (suc (suc (3 * (n - (length bs + 1))))) = omega arith in
-      ap (λ (z : List ℕ). set z 0 j) (encode-append n f bs (bucket 0 0 0 ∷ [])) ∙ rw (unused, place)
+      ap (λ (z : List ℕ). set z 0 j) (encode-append n f bs (bucketOf 0 0 0 ∷ [])) ∙ rw (unused, place)
 
   -- the lowest bucket taken out: every other slot moves one down, the last is cleared, and the count falls
   pub evict-encode : (lowest : Bucket)
-      → set (putSlot (lower (encodeLevel n (level f (lowest ∷ bs))) 2 (3 * j)) (2 + 3 * j) (bucket 0 0 0)) 0 j ≡ encodeLevel n (level f bs)
+      → set (putSlot (lower (encodeLevel n (levelOf f (lowest ∷ bs))) 2 (3 * j)) (2 + 3 * j) (bucketOf 0 0 0)) 0 j ≡ encodeLevel n (levelOf f bs)
   evict-encode lowest =
-      let shifted = shift-encode n f bs [] j place lowest (bucket 0 0 0) in
+      let shifted = shift-encode n f bs [] j place lowest (bucketOf 0 0 0) in
       rw (rw append-nil at shifted) clear-encode

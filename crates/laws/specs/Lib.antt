@@ -16,3 +16,5 @@ pub mod Parts
 pub mod BlockWords
 pub mod BlockWrites
 pub mod BookWords
+pub mod Place
+pub mod Proper

@@ -6,7 +6,7 @@ use Prim.Native.Nat.{ℕ, zero, suc, _+_, _^_, _≤_, _<_}
 use native.Mathlib.Omega.{arith}
 use lib.Pow.{pow-pos}
 use lib.ListN.{length}
-use Rattle.model.specs.Level.{Bucket, Level, bucket, level, grow, firstAfter, evict, unit, insert, emptyLevel}
+use Rattle.model.specs.Level.{Bucket, Level, bucketOf, levelOf, grow, firstAfter, evict, unit, insert, emptyLevel}
 use Rattle.model.specs.Block.{sumFrom}
 use Rattle.model.specs.Sound.{weightOf}
 use Rattle.laws.specs.Cases.{by-lt, by-eq}
@@ -80,7 +80,7 @@ module _ (k n i : ℕ) (two : 2 ≤ n) where
       → weightOf bs ≤ total → (first ≡ 0 → weightOf bs ≡ total) → first < 2 ^ k → Follows k i c first bs → Tracks k n i total c (evict n i first bs)
   evict-tracks total c first bs falls most full within whole inside g = go bs refl
     where
-      stays : length bs ≤ n → Tracks k n i total c (level first bs)
+      stays : length bs ≤ n → Tracks k n i total c (levelOf first bs)
       stays few = record { falls = falls; few = few; full = λ h. omega (arith, full h); within = within; whole = whole; inside = inside; follows = g }
 
       go : (cs : List Bucket) → bs ≡ cs → Tracks k n i total c (evict n i first cs)
@@ -136,7 +136,7 @@ module _ (k n i : ℕ) (two : 2 ≤ n) where
       (unit-tracks (total + v) (more x v c) x (insert n i x v l) inside (insert-tracks total c x v l inside t))
 
 -- an empty level follows the counts of nothing
-whole-tracks : (k n i : ℕ) (bs : List Bucket) → length bs ≤ n → weightOf bs ≡ 0 → Follows k i (λ _. 0) 0 bs → Tracks k n i 0 (λ _. 0) (level 0 bs)
+whole-tracks : (k n i : ℕ) (bs : List Bucket) → length bs ≤ n → weightOf bs ≡ 0 → Follows k i (λ _. 0) 0 bs → Tracks k n i 0 (λ _. 0) (levelOf 0 bs)
 whole-tracks k n i bs few none g = record {
   falls = λ t u _. omega arith;
   few = few;
@@ -150,11 +150,11 @@ whole-tracks k n i bs few none g = record {
 pub empty-tracks : (k n i : ℕ) → 2 ≤ n → Tracks k n i 0 (λ _. 0) (emptyLevel k i)
 empty-tracks k n zero two = whole-tracks k n 0 [] (omega arith) refl (tt, λ t _. refl)
 empty-tracks k n (suc j) two =
-    let root : Part (2 ^ suc j) k (λ _. 0) 0 0 (bucket 0 (2 ^ k) 0) = record {
+    let root : Part (2 ^ suc j) k (λ _. 0) 0 0 (bucketOf 0 (2 ^ k) 0) = record {
       at = refl;
       shape = record { size = k; depth = 0; place = 0; power = refl; deep = omega arith; aligned = omega arith };
       heavy = λ l. absurd (omega arith);
       left = omega arith;
       right = omega arith;
     } in
-    whole-tracks k n (suc j) (bucket 0 (2 ^ k) 0 ∷ []) (omega arith) refl (root, (λ _. omega (arith, pow-pos (suc j))), (omega arith, refl))
+    whole-tracks k n (suc j) (bucketOf 0 (2 ^ k) 0 ∷ []) (omega arith) refl (root, (λ _. omega (arith, pow-pos (suc j))), (omega arith, refl))

@@ -9,7 +9,7 @@ use lib.Dec.{ltb, leb, eqb}
 use lib.ListN.{length}
 use borrow.Author.Tests.{not-false, ltb-true, ltb-false, eqb-true}
 use Rattle.shape.specs.declared.Shape.{Shape}
-use Rattle.shape.specs.Limits.{shape, within}
+use Rattle.shape.specs.Limits.{shaped, within}
 use Rattle.shape.specs.Layout.{bookWords}
 use Rattle.model.specs.declared.Call.{Call}
 use Rattle.model.specs.declared.Call.the-variants.{Make, Clock, Delivery, Query}
@@ -17,7 +17,7 @@ use Rattle.model.specs.Block.{Half, interval, late, halfOf}
 use Rattle.model.specs.Words.{blockPart, decodeBlock}
 use Rattle.model.specs.Sound.{allFrom, maxClock, soundHead, soundBlock}
 use Rattle.model.specs.Calls.{View, firstOf, refusals, bookView}
-use Rattle.model.specs.Ledger.{Entry, ledger, ledgerView, volumeOf, ofInterval}
+use Rattle.model.specs.Ledger.{Entry, ledgerOf, ledgerView, volumeOf, ofInterval}
 use Rattle.laws.specs.Parts.{allFrom-intro}
 use Rattle.ledger.specs.First.{past, further}
 use Rattle.ledger.specs.Time.{interval-mono, interval-near}
@@ -27,7 +27,7 @@ use Rattle.ledger.specs.State.{Good, wordsOf, words-length, words-head, 
 
 module _ (k n m g clock : ℕ) (es : List Entry) where
   abbrev s : Shape
-  s = shape k n m g
+  s = shaped k n m g
 
   abbrev ws : List ℕ
   ws = wordsOf s clock es
@@ -48,7 +48,7 @@ module _ (k n m g clock : ℕ) (es : List Entry) where
   bookView-grown = refl
 
   abbrev exactView : View
-  exactView = ledgerView (length ws) (ledger s clock es)
+  exactView = ledgerView (length ws) (ledgerOf s clock es)
 
   module _ (good : Good k n m g clock es) where
     -- the total of the half that serves a stamp which is neither ahead nor late
@@ -130,9 +130,9 @@ module _ (k n m g clock : ℕ) (es : List Entry) where
       (ltb-false maxClock to (early .0), ltb-false to clock (later .0))
 
 -- an accepted make, on whatever words and whatever view
-pub accepted-make : (v : View) (k n m g : ℕ) → firstOf (refusals v (Make k n m g)) ≡ 0 → (within k n m g ≡ true) × (v .lent ≡ bookWords (shape k n m g))
+pub accepted-make : (v : View) (k n m g : ℕ) → firstOf (refusals v (Make k n m g)) ≡ 0 → (within k n m g ≡ true) × (v .lent ≡ bookWords (shaped k n m g))
 unfolding refusals
 accepted-make v k n m g h =
     let inside = further (not (within k n m g)) 1 (λ e. omega arith) h in
-    let size = further (not (eqb (v .lent) (bookWords (shape k n m g)))) 2 (λ e. omega arith) (inside .1) in
-    (not-false (within k n m g) (inside .0), eqb-true (v .lent) (bookWords (shape k n m g)) (not-false _ (size .0)))
+    let size = further (not (eqb (v .lent) (bookWords (shaped k n m g)))) 2 (λ e. omega arith) (inside .1) in
+    (not-false (within k n m g) (inside .0), eqb-true (v .lent) (bookWords (shaped k n m g)) (not-false _ (size .0)))

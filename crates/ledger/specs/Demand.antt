@@ -10,13 +10,13 @@ use native.Mathlib.Omega.{arith}
 use lib.ListN.{length}
 use borrow.Author.Tests.{lt-ltb, ltb-true}
 use Rattle.shape.specs.declared.Shape.{Shape}
-use Rattle.shape.specs.Limits.{shape}
+use Rattle.shape.specs.Limits.{shaped}
 use Rattle.model.specs.declared.Call.{Call}
 use Rattle.model.specs.declared.Call.the-variants.{Make, Clock, Delivery, Query}
 use Rattle.model.specs.Block.{late, answer, opening}
 use Rattle.model.specs.Words.{shapeOf, clockOf}
 use Rattle.model.specs.Calls.{blockAt, firstOf, refusals, bookView, accept, perform, made, clocked, delivered}
-use Rattle.model.specs.Ledger.{Entry, Ledger, ledger, ledgerView, note, enter}
+use Rattle.model.specs.Ledger.{Entry, Ledger, ledgerOf, ledgerView, note, enter}
 use Rattle.model.specs.Claim.{Turn, run, Each, ByCall, Bound, Span, Outside, Missed, Kept, Claim}
 use Rattle.laws.specs.Cases.{eq-or-ne}
 use Rattle.ledger.specs.First.{settle-accepted, settle-refused, perform-number, enter-number}
@@ -36,20 +36,20 @@ pub record Next (k n m g clock : ℕ) (es : List Entry) (call : Call) : Type 0 w
   pub clock′ : ℕ
   pub es′ : List Entry
   pub good : Good k′ n′ m′ g′ clock′ es′
-  pub book : perform (wordsOf (shape k n m g) clock es) call .left ≡ wordsOf (shape k′ n′ m′ g′) clock′ es′
-  pub exact : enter (length (wordsOf (shape k n m g) clock es)) (ledger (shape k n m g) clock es) call .left ≡ ledger (shape k′ n′ m′ g′) clock′ es′
-  pub span : ByCall (perform (wordsOf (shape k n m g) clock es) call .reply .number ≡ 0 → ⊥) (Unit {0}) (λ _. Unit {0}) (λ _. Unit {0}) call
+  pub book : perform (wordsOf (shaped k n m g) clock es) call .left ≡ wordsOf (shaped k′ n′ m′ g′) clock′ es′
+  pub exact : enter (length (wordsOf (shaped k n m g) clock es)) (ledgerOf (shaped k n m g) clock es) call .left ≡ ledgerOf (shaped k′ n′ m′ g′) clock′ es′
+  pub span : ByCall (perform (wordsOf (shaped k n m g) clock es) call .reply .number ≡ 0 → ⊥) (Unit {0}) (λ _. Unit {0}) (λ _. Unit {0}) call
       → (k′ ≡ k) × (clock ≤ clock′)
 
 module _ (k n m g clock : ℕ) (es : List Entry) (good : Good k n m g clock es) where
   abbrev s : Shape
-  s = shape k n m g
+  s = shaped k n m g
 
   abbrev ws : List ℕ
   ws = wordsOf s clock es
 
   abbrev l : Ledger
-  l = ledger s clock es
+  l = ledgerOf s clock es
 
   abbrev first : Call → ℕ
   first call = firstOf (refusals (bookView ws) call)
@@ -106,7 +106,7 @@ module _ (k n m g clock : ℕ) (es : List Entry) (good : Good k n m g clock es) 
         clock′ = 0;
         es′ = [];
         good = made-good k′ n′ m′ g′ (accepted-make (bookView ws) k′ n′ m′ g′ h .0);
-        book = ap (λ o. o .left) (book-accepted call h) ∙ made-words (shape k′ n′ m′ g′);
+        book = ap (λ o. o .left) (book-accepted call h) ∙ made-words (shaped k′ n′ m′ g′);
         exact = ap (λ o. o .left) (exact-accepted call h);
         span = λ refused. absurd (refused (perform-number ws call ∙ h));
       }
@@ -232,7 +232,7 @@ module _ (k n m g clock : ℕ) (es : List Entry) (good : Good k n m g clock es) 
 
 -- a run from the words of a ledger
 abbrev grown : (k n m g clock : ℕ) → List Entry → List Call → List Turn
-grown k n m g clock es calls = run (wordsOf (shape k n m g) clock es) (ledger (shape k n m g) clock es) calls
+grown k n m g clock es calls = run (wordsOf (shaped k n m g) clock es) (ledgerOf (shaped k n m g) clock es) calls
 
 abbrev after : {k n m g clock : ℕ} {es : List Entry} {call : Call} → Next k n m g clock es call → List Call → List Turn
 after c calls = grown (c .k′) (c .n′) (c .m′) (c .g′) (c .clock′) (c .es′) calls
@@ -267,6 +267,6 @@ unfolding Claim perform
 demand-3 before k n m g number calls =
     let call : Call = Make k n m g in
     let h : firstOf (refusals (bookView before) call) ≡ 0 = sym (perform-number before call) ∙ number in
-    let words : perform before call .left ≡ wordsOf (shape k n m g) 0 [] =
-    ap (λ o. o .left) (settle-accepted (refusals (bookView before) call) before (accept before call) h) ∙ made-words (shape k n m g) in
+    let words : perform before call .left ≡ wordsOf (shaped k n m g) 0 [] =
+    ap (λ o. o .left) (settle-accepted (refusals (bookView before) call) before (accept before call) h) ∙ made-words (shaped k n m g) in
     rw words (kept calls k n m g 0 [] (made-good k n m g (accepted-make (bookView before) k n m g h .0)))

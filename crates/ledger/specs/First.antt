@@ -9,7 +9,7 @@ use Rattle.laws.specs.Cases.{by-eq}
 use Rattle.model.specs.declared.Call.{Call}
 use Rattle.model.specs.declared.Call.the-variants.{Make, Clock, Delivery, Query}
 use Rattle.model.specs.Ledger.{Ledger, ledgerView, note, enter}
-use Rattle.model.specs.Calls.{firstOf, Outcome, outcome, settle, refusals, bookView, accept, perform}
+use Rattle.model.specs.Calls.{firstOf, Outcome, outcomeOf, settle, refusals, bookView, accept, perform}
 
 -- lists of refusals that begin alike: the rest is compared where the first condition does not hold
 pub past : (a : Bool) (x : ℕ) {y z : ℕ} → (a ≡ false → y ≡ z) → cond a x y ≡ cond a x z
@@ -30,7 +30,7 @@ module _ {A : Type 0} (rs : List (Bool × ℕ)) (before : A) (done : Outcome A) 
   settle-number h =
       by-eq (firstOf rs) 0 (λ (o : Outcome A). o .reply .number ≡ firstOf rs) (λ none. h ∙ sym none) (λ some. refl)
 
-  pub settle-refused : (firstOf rs ≡ 0 → ⊥) → settle rs before done ≡ outcome (refused (firstOf rs)) before
+  pub settle-refused : (firstOf rs ≡ 0 → ⊥) → settle rs before done ≡ outcomeOf (refused (firstOf rs)) before
   settle-refused h = rw (ne-eqb (firstOf rs) 0 h)
 
 -- the number that a call is answered, on any words and by any ledger

@@ -9,7 +9,7 @@ use lib.Dec.{eqb}
 use lib.ListN.{replicate}
 use borrow.Author.Tests.{eq-eqb, ne-eqb, eqb-true}
 use Rattle.shape.specs.declared.Shape.{Shape}
-use Rattle.shape.specs.Limits.{shape, within}
+use Rattle.shape.specs.Limits.{shaped, within}
 use Rattle.shape.specs.LimitsLaws.{both, Limits, within-limits}
 use Rattle.model.specs.Block.{Half, Block, upFrom, interval, emptyHalf, advance, deliver}
 use Rattle.model.specs.Words.{withBlock, shapeOf, clockOf, encodeHead, encodeBlock, join}
@@ -54,7 +54,7 @@ made-good k n m g h = record { limits = within-limits k n m g h; early = omega a
 
 module _ (k n m g clock : ℕ) (es : List Entry) (good : Good k n m g clock es) where
   abbrev s : Shape
-  s = shape k n m g
+  s = shaped k n m g
 
   abbrev ws : List ℕ
   ws = wordsOf s clock es

@@ -7,14 +7,14 @@ use Prim.Native.Nat.{ℕ, zero, suc, _+_, _^_, _≤_, _<_}
 use native.Mathlib.Omega.{arith}
 use lib.ListN.{length}
 use Rattle.shape.specs.declared.Shape.{Shape}
-use Rattle.shape.specs.Limits.{shape}
+use Rattle.shape.specs.Limits.{shaped}
 use Rattle.shape.specs.Layout.{bookWords, blockWords}
 use Rattle.shape.specs.LimitsLaws.{Limits}
 use Rattle.model.specs.Block.{Block, interval}
 use Rattle.model.specs.Words.{encodeBlock, decodeBlock, blockPart}
 use Rattle.model.specs.Sound.{allFrom, soundBlock, soundHead, maxClock}
 use Rattle.model.specs.Calls.{blockAt}
-use Rattle.model.specs.Ledger.{Entry, Ledger, ledger, volumeOf, ofInterval}
+use Rattle.model.specs.Ledger.{Entry, Ledger, ledgerOf, volumeOf, ofInterval}
 use Rattle.model.specs.Claim.{Each}
 use Rattle.laws.specs.SoundFacts.{sound-tests}
 use Rattle.laws.specs.Parts.{allFrom-intro}
@@ -31,7 +31,7 @@ pub record Good (k n m g clock : ℕ) (es : List Entry) : Type 0 where
   pub limits : Limits k n m g
   pub early : clock ≤ maxClock
   pub past : Each (λ e. e .stamp ≤ clock) es
-  pub few : (grade j : ℕ) → volumeOf (ofInterval (shape k n m g) grade j) es ≤ 2 ^ m
+  pub few : (grade j : ℕ) → volumeOf (ofInterval (shaped k n m g) grade j) es ≤ 2 ^ m
 
 -- the words of a ledger
 unfoldable pub wordsOf : Shape → ℕ → List Entry → List ℕ
@@ -39,7 +39,7 @@ wordsOf s clock es = bookOf s clock (λ grade. encodeBlock s (blockFor s clock e
 
 module _ (k n m g clock : ℕ) (es : List Entry) (good : Good k n m g clock es) where
   abbrev s : Shape
-  s = shape k n m g
+  s = shaped k n m g
 
   pub half-sound : (grade parity : ℕ) → HalfSound s (halfAt s clock es grade parity)
   unfolding halfFed

@@ -10,7 +10,7 @@ use lib.Dec.{leb, eqb}
 use lib.Pow.{pow-pos}
 use borrow.Author.Tests.{le-leb, lt-leb, eq-eqb, ne-eqb}
 use Rattle.shape.specs.declared.Shape.{Shape}
-use Rattle.shape.specs.Limits.{shape}
+use Rattle.shape.specs.Limits.{shaped}
 use Rattle.model.specs.Block.{Half, interval, offsetOf, opening, covers, halfOf, answer, sumFrom, serving}
 use Rattle.model.specs.Ledger.{Entry, volumeOf, ofInterval, ofWindow}
 use Rattle.model.specs.Claim.{Each, Admits}
@@ -150,21 +150,21 @@ module _ (s : Shape) (clock grade window : ℕ) where
 module _ (k n m g clock : ℕ) (es : List Entry) (good : Good k n m g clock es) (room : k + 1 < n) where
   -- the sum of the half for interval j from an offset on
   half-admits : (grade j a : ℕ) → a < 2 ^ k
-      → Admits n k (sumFrom a (serving a (halfFor (shape k n m g) (ofInterval (shape k n m g) grade j) es .levels) .buckets))
-      (volumeOf (fromOffset (shape k n m g) grade j a) es)
+      → Admits n k (sumFrom a (serving a (halfFor (shaped k n m g) (ofInterval (shaped k n m g) grade j) es .levels) .buckets))
+      (volumeOf (fromOffset (shaped k n m g) grade j a) es)
   unfolding halfFed
   half-admits grade j a h =
-      let s : Shape = shape k n m g in
+      let s : Shape = shaped k n m g in
       let p : Entry → Bool = ofInterval s grade j in
       let twice : 2 * 2 ^ m ≤ n * 2 ^ m = mul-le-mul-right (2 ^ m) (good .limits .low-n) in
       let small : counted (events s p es) 0 < n * 2 ^ m = omega (arith, counted-all s p es, good .few grade j, pow-pos m) in
       rw (← counted-events s p a es) (relative k n m (events s p es) (events-inside s p es) room small a h)
 
   pub answer-admits : (grade window : ℕ) → window ≤ 2 ^ k
-      → Admits n k (answer (shape k n m g) clock (opening clock window) (blockFor (shape k n m g) clock es grade)) (volumeOf (ofWindow clock grade window) es)
+      → Admits n k (answer (shaped k n m g) clock (opening clock window) (blockFor (shaped k n m g) clock es grade)) (volumeOf (ofWindow clock grade window) es)
   unfolding answer halfFed
   answer-admits grade window w =
-      let s : Shape = shape k n m g in
+      let s : Shape = shaped k n m g in
       let start : ℕ = opening clock window in
       let from : ℕ = interval s start in
       let current : ℕ = interval s clock in

@@ -4,7 +4,7 @@ use mathlib.Core.List.{List, [], _∷_}
 use Prim.Native.Nat.{ℕ, zero, suc, _+_, _-_, _/_, _%_, _^_}
 use lib.Dec.{leb, ltb, eqb}
 use Rattle.shape.specs.declared.Shape.{Shape}
-use Rattle.model.specs.Level.{Bucket, Level, level, insert, emptyLevel}
+use Rattle.model.specs.Level.{Bucket, Level, levelOf, insert, emptyLevel}
 
 pub record Half : Type 0 where  -- document 01's half: the total and the levels 0 to the last of one interval
   pub total : ℕ
@@ -67,7 +67,7 @@ sumFrom a [] = 0
 sumFrom a (b ∷ bs) = cond (leb a (b .offset)) (b .weight) 0 + sumFrom a bs
 
 abbrev pub serving : ℕ → List Level → Level  -- the finest level with F at most a: the first, since level 0 is the finest
-serving a [] = level 0 []
+serving a [] = levelOf 0 []
 serving a (l ∷ ls) = cond (leb (l .first) a) l (serving a ls)
 
 unfoldable pub answer : Shape → ℕ → ℕ → Block → ℕ  -- the sum of a window that opens at stamp `start`

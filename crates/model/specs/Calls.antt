@@ -6,7 +6,7 @@ use lib.Dec.{ltb, eqb}
 use lib.ListN.{length, replicate}
 use Rattle.shape.specs.declared.Shape.{Shape}
 use Rattle.shape.specs.Layout.{bookWords}
-use Rattle.shape.specs.Limits.{Reply, refused, accepted, within, shape}
+use Rattle.shape.specs.Limits.{Reply, refused, accepted, within, shaped}
 use Rattle.model.specs.declared.Call.{Call}
 use Rattle.model.specs.declared.Call.the-variants.{Make, Clock, Delivery, Query}
 use Rattle.model.specs.Block.{Block, emptyHalf, deliver, advance, answer, opening, late, interval, halfOf, upFrom}
@@ -21,14 +21,14 @@ pub record Outcome (A : Type 0) : Type 0 where  -- what a call answers, and what
   pub reply : Reply
   pub left : A
 
-abbrev pub outcome : {A : Type 0} → Reply → A → Outcome A
-outcome reply left = record { reply = reply; left = left }
+abbrev pub outcomeOf : {A : Type 0} → Reply → A → Outcome A
+outcomeOf reply left = record { reply = reply; left = left }
 
 -- refused under the first number whose condition holds, with nothing changed, or accepted
 abbrev pub settle : {A : Type 0} → List (Bool × ℕ) → A → Outcome A → Outcome A
 settle refusals before done =
     let number = firstOf refusals in
-    cond (eqb number 0) done (outcome (refused number) before)
+    cond (eqb number 0) done (outcomeOf (refused number) before)
 
 pub record View : Type 0 where  -- what the refusals look at: the book gives it from its words, the ledger from its entries
   pub lent : ℕ
@@ -42,7 +42,7 @@ abbrev pub opened : View → List (Bool × ℕ)  -- how the refusals of clock, d
 opened v = (ltb (v .lent) 8, 2) ∷ (not (v .headSound), 7) ∷ (not (eqb (v .lent) (bookWords (v .shape))), 2) ∷ []
 
 unfoldable pub refusals : View → Call → List (Bool × ℕ)  -- the refusals of each call in their order
-refusals v (Make k n m g) = (not (within k n m g), 1) ∷ (not (eqb (v .lent) (bookWords (shape k n m g))), 2) ∷ []
+refusals v (Make k n m g) = (not (within k n m g), 1) ∷ (not (eqb (v .lent) (bookWords (shaped k n m g))), 2) ∷ []
 refusals v (Clock clock) =
     opened v ++ (ltb maxClock clock, 6) ∷ (ltb clock (v .clock), 10) ∷ (not (allFrom (v .blockSound) 0 (v .shape .g)), 11) ∷ []
 refusals v (Delivery grade stamp volume) =
@@ -76,11 +76,11 @@ unfoldable pub delivered : Shape → ℕ → ℕ → ℕ → List ℕ → List �
 delivered s grade stamp volume ws = withBlock s grade (encodeBlock s (deliver s stamp volume (blockAt ws grade))) ws
 
 abbrev pub accept : List ℕ → Call → Outcome (List ℕ)  -- an accepted call
-accept ws (Make k n m g) = outcome (accepted []) (made (shape k n m g))
-accept ws (Clock clock) = outcome (accepted []) (clocked (shapeOf ws) clock ws)
-accept ws (Delivery grade stamp volume) = outcome (accepted []) (delivered (shapeOf ws) grade stamp volume ws)
+accept ws (Make k n m g) = outcomeOf (accepted []) (made (shaped k n m g))
+accept ws (Clock clock) = outcomeOf (accepted []) (clocked (shapeOf ws) clock ws)
+accept ws (Delivery grade stamp volume) = outcomeOf (accepted []) (delivered (shapeOf ws) grade stamp volume ws)
 accept ws (Query grade window) =
-    outcome (accepted (answer (shapeOf ws) (clockOf ws) (opening (clockOf ws) window) (blockAt ws grade) ∷ [])) ws
+    outcomeOf (accepted (answer (shapeOf ws) (clockOf ws) (opening (clockOf ws) window) (blockAt ws grade) ∷ [])) ws
 
 unfoldable pub perform : List ℕ → Call → Outcome (List ℕ)  -- a call on words of any length and content
 perform ws call = settle (refusals (bookView ws) call) ws (accept ws call)

@@ -4,12 +4,12 @@ use mathlib.Core.Path.{_≡_}
 use mathlib.Core.List.{List, [], _∷_}
 use Prim.Native.Nat.{ℕ, _+_, _-_, _*_, _^_, _≤_, _<_}
 use lib.ListN.{length, getD}
-use Rattle.shape.specs.Limits.{Reply, shape}
+use Rattle.shape.specs.Limits.{Reply, shaped}
 use Rattle.model.specs.declared.Call.{Call}
 use Rattle.model.specs.declared.Call.the-variants.{Make, Clock, Delivery, Query}
 use Rattle.model.specs.Block.{covers}
 use Rattle.model.specs.Calls.{perform}
-use Rattle.model.specs.Ledger.{Ledger, ledger, enter}
+use Rattle.model.specs.Ledger.{Ledger, ledgerOf, enter}
 
 pub record Turn : Type 0 where  -- one call of a run: the ledger before it, what the book answers and what the ledger answers
   pub call : Call
@@ -70,4 +70,4 @@ pub record Kept (turns : List Turn) : Type 0 where
 -- demand 3: for every list of calls, from the words that an accepted make left on any words, and the ledger from that make
 unfoldable pub Claim : Type 0
 Claim = (before : List ℕ) (k n m g : ℕ) → perform before (Make k n m g) .reply .number ≡ 0 → (calls : List Call)
-    → Kept (run (perform before (Make k n m g) .left) (ledger (shape k n m g) 0 []) calls)
+    → Kept (run (perform before (Make k n m g) .left) (ledgerOf (shaped k n m g) 0 []) calls)

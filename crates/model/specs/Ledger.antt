@@ -4,11 +4,11 @@ use mathlib.Core.List.{List, [], _∷_}
 use Prim.Native.Nat.{ℕ, _+_}
 use lib.Dec.{eqb}
 use Rattle.shape.specs.declared.Shape.{Shape}
-use Rattle.shape.specs.Limits.{accepted, shape}
+use Rattle.shape.specs.Limits.{accepted, shaped}
 use Rattle.model.specs.declared.Call.{Call}
 use Rattle.model.specs.declared.Call.the-variants.{Make, Clock, Delivery, Query}
 use Rattle.model.specs.Block.{covers, interval}
-use Rattle.model.specs.Calls.{View, refusals, Outcome, outcome, settle}
+use Rattle.model.specs.Calls.{View, refusals, Outcome, outcomeOf, settle}
 
 pub record Entry : Type 0 where  -- an accepted delivery with all its numbers
   pub grade : ℕ
@@ -20,8 +20,8 @@ pub record Ledger : Type 0 where  -- the latest entry stands first
   pub clock : ℕ
   pub entries : List Entry
 
-abbrev pub ledger : Shape → ℕ → List Entry → Ledger
-ledger s clock entries = record { shape = s; clock = clock; entries = entries }
+abbrev pub ledgerOf : Shape → ℕ → List Entry → Ledger
+ledgerOf s clock entries = record { shape = s; clock = clock; entries = entries }
 
 abbrev pub volumeOf : (Entry → Bool) → List Entry → ℕ  -- the volumes of the entries that satisfy a test
 volumeOf p [] = 0
@@ -44,12 +44,12 @@ ledgerView lent l = record {
 }
 
 abbrev pub note : Ledger → Call → Outcome Ledger  -- an accepted call
-note l (Make k n m g) = outcome (accepted []) (ledger (shape k n m g) 0 [])
-note l (Clock clock) = outcome (accepted []) (ledger (l .shape) clock (l .entries))
+note l (Make k n m g) = outcomeOf (accepted []) (ledgerOf (shaped k n m g) 0 [])
+note l (Clock clock) = outcomeOf (accepted []) (ledgerOf (l .shape) clock (l .entries))
 note l (Delivery grade stamp volume) =
     let entry : Entry = record { grade = grade; stamp = stamp; volume = volume } in
-    outcome (accepted []) (ledger (l .shape) (l .clock) (entry ∷ l .entries))
-note l (Query grade window) = outcome (accepted (volumeOf (ofWindow (l .clock) grade window) (l .entries) ∷ [])) l
+    outcomeOf (accepted []) (ledgerOf (l .shape) (l .clock) (entry ∷ l .entries))
+note l (Query grade window) = outcomeOf (accepted (volumeOf (ofWindow (l .clock) grade window) (l .entries) ∷ [])) l
 
 unfoldable pub enter : ℕ → Ledger → Call → Outcome Ledger  -- a call that is lent so many words
 enter lent l call = settle (refusals (ledgerView lent l) call) l (note l call)

@@ -14,18 +14,18 @@ pub record Level : Type 0 where  -- the buckets by rising offset; `first` is doc
   pub first : ℕ
   pub buckets : List Bucket
 
-abbrev pub bucket : ℕ → ℕ → ℕ → Bucket
-bucket offset width weight = record { offset = offset; width = width; weight = weight }
+abbrev pub bucketOf : ℕ → ℕ → ℕ → Bucket
+bucketOf offset width weight = record { offset = offset; width = width; weight = weight }
 
-abbrev pub level : ℕ → List Bucket → Level
-level first buckets = record { first = first; buckets = buckets }
+abbrev pub levelOf : ℕ → List Bucket → Level
+levelOf first buckets = record { first = first; buckets = buckets }
 
 abbrev pub gained : Bucket → Bucket  -- the bucket gains 1
-gained b = bucket (b .offset) (b .width) (suc (b .weight))
+gained b = bucketOf (b .offset) (b .width) (suc (b .weight))
 
 abbrev pub put : ℕ → List Bucket → List Bucket  -- level 0: the bucket of offset x gains 1, or is made with weight 1 in its place
-put x [] = bucket x 1 1 ∷ []
-put x (b ∷ bs) = cond (ltb x (b .offset)) (bucket x 1 1 ∷ b ∷ bs) (cond (eqb x (b .offset)) (gained b ∷ bs) (b ∷ put x bs))
+put x [] = bucketOf x 1 1 ∷ []
+put x (b ∷ bs) = cond (ltb x (b .offset)) (bucketOf x 1 1 ∷ b ∷ bs) (cond (eqb x (b .offset)) (gained b ∷ bs) (b ∷ put x bs))
 
 abbrev pub holds : Bucket → ℕ → Bool  -- the bucket covers offset x
 holds b x = leb (b .offset) x && ltb x (b .offset + b .width)
@@ -34,7 +34,7 @@ holds b x = leb (b .offset) x && ltb x (b .offset + b .width)
 abbrev pub split : ℕ → Bucket → List Bucket
 split i b =
     let half = b .width / 2 in
-    cond (eqb (b .weight) (2 ^ suc i) && ltb 1 (b .width)) (bucket (b .offset) half (2 ^ i) ∷ bucket (b .offset + half) half (2 ^ i) ∷ []) (b ∷ [])
+    cond (eqb (b .weight) (2 ^ suc i) && ltb 1 (b .width)) (bucketOf (b .offset) half (2 ^ i) ∷ bucketOf (b .offset + half) half (2 ^ i) ∷ []) (b ∷ [])
 
 abbrev pub add : ℕ → ℕ → List Bucket → List Bucket  -- level i from 1: the bucket covering offset x gains 1
 add i x [] = []
@@ -51,8 +51,8 @@ firstAfter (suc j) b [] = b .offset + b .width
 firstAfter (suc j) b (next ∷ rest) = next .offset
 
 abbrev pub evict : ℕ → ℕ → ℕ → List Bucket → Level  -- if there are now n + 1 buckets, the lowest is given up
-evict n i first [] = level first []
-evict n i first (b ∷ bs) = cond (eqb (length (b ∷ bs)) (n + 1)) (level (firstAfter i b bs) bs) (level first (b ∷ bs))
+evict n i first [] = levelOf first []
+evict n i first (b ∷ bs) = cond (eqb (length (b ∷ bs)) (n + 1)) (levelOf (firstAfter i b bs) bs) (levelOf first (b ∷ bs))
 
 unfoldable pub unit : ℕ → ℕ → ℕ → Level → Level  -- one decilitre at offset x into level i, which holds at most n buckets; below F it is ignored
 unit n i x l = cond (ltb x (l .first)) l (evict n i (l .first) (grow i x (l .buckets)))
@@ -62,5 +62,5 @@ insert n i x zero l = l
 insert n i x (suc v) l = unit n i x (insert n i x v l)
 
 abbrev pub emptyLevel : ℕ → ℕ → Level  -- level i of an empty half of 2^k ticks
-emptyLevel k zero = level 0 []
-emptyLevel k (suc j) = level 0 (bucket 0 (2 ^ k) 0 ∷ [])
+emptyLevel k zero = levelOf 0 []
+emptyLevel k (suc j) = levelOf 0 (bucketOf 0 (2 ^ k) 0 ∷ [])

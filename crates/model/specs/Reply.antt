@@ -21,7 +21,7 @@ numberOf Back = 10
 numberOf Block = 11
 numberOf Full = 12
 
-unfoldable pub reply : Answer → Reply  -- the number, 0 where accepted, and the sum where there is one
-reply Done = accepted []
-reply (Sum sum) = accepted (sum ∷ [])
-reply (Refused r) = refused (numberOf r)
+unfoldable pub replyOf : Answer → Reply  -- the number, 0 where accepted, and the sum where there is one
+replyOf Done = accepted []
+replyOf (Sum sum) = accepted (sum ∷ [])
+replyOf (Refused r) = refused (numberOf r)

@@ -6,6 +6,7 @@ use lib.Dec.{leb, ltb, eqb}
 use lib.ListN.{length, getD, drop}
 use Rattle.shape.specs.declared.Shape.{Shape}
 use Rattle.shape.specs.Limits.{within}
+use Rattle.shape.specs.Layout.{slotStart}
 use Rattle.model.specs.Level.{Bucket}
 use Rattle.model.specs.Words.{slots, levelPart, clockOf}
 
@@ -52,7 +53,7 @@ soundLevel s i total ws =
     let count = getD ws 0 0 in
     let first = getD ws 1 0 in
     let bs = slots ws 0 count in
-    leb count (s .n) && (zeros (drop (2 + 3 * count) ws) && (leb (weightOf bs) total && (implies (eqb first 0) (eqb (weightOf bs) total)
+    leb count (s .n) && (zeros (drop (slotStart count) ws) && (leb (weightOf bs) total && (implies (eqb first 0) (eqb (weightOf bs) total)
     && (implies (ltb 0 first) (eqb count (s .n)) && soundBuckets (s .k) i first bs))))
 
 unfoldable pub soundHalf : Shape → ℕ → List ℕ → Bool

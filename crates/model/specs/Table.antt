@@ -1,18 +1,20 @@
 -- Document 01's examples P1 to P10, as one table that the definitions meet. Assumes nothing.
+use mathlib.Core.Bool.{Bool, true, _&&_}
 use mathlib.Core.Path.{_≡_, refl}
 use mathlib.Core.List.{List, [], _∷_, _++_}
 use Prim.Native.Nat.{ℕ}
-use lib.ListN.{getD, replicate}
-use Rattle.shape.specs.Limits.{Reply, accepted, refused, within, shape}
+use lib.Dec.{ltb}
+use lib.ListN.{getD, replicate, take}
+use Rattle.shape.specs.Limits.{Reply, accepted, refused, within, shaped}
 use Rattle.model.specs.declared.Call.{Call}
 use Rattle.model.specs.declared.Call.the-variants.{Make, Clock, Delivery, Query}
 use Rattle.shape.specs.Layout.{bookWords, blockWords, blockStart, levelStart}
-use Rattle.model.specs.Level.{Level, level, bucket, unit, insert}
+use Rattle.model.specs.Level.{Level, levelOf, bucketOf, unit, insert}
 use Rattle.model.specs.Block.{opening, offsetOf, interval, halfOf, serving, emptyHalf, deliverHalf, deliver, advance, answer}
 use Rattle.model.specs.Words.{shapeOf, clockOf, decodeLevel, decodeHalf, decodeBlock, encodeLevel, encodeBlock}
 use Rattle.model.specs.Sound.{soundHead, soundLevel, soundHalf, soundBlock}
 use Rattle.model.specs.Calls.{blockAt, refusals, bookView, made, clocked, delivered, perform}
-use Rattle.model.specs.Ledger.{Ledger, ledger, ledgerView, enter}
+use Rattle.model.specs.Ledger.{Ledger, ledgerOf, ledgerView, enter}
 use Rattle.model.specs.Claim.{Each}
 
 -- what an example says of grade 0 after its calls
@@ -25,15 +27,21 @@ pub data Fact : Type 0 where
   -- the level that a window is answered from
   servedFrom : ℕ → ℕ → Fact
 
+-- every one of these levels has F past a
+abbrev pub past : ℕ → List Level → Bool
+past a [] = true
+past a (l ∷ ls) = ltb a (l .first) && past a ls
+
 abbrev pub Holds : List ℕ → Ledger → Fact → Type 0
-Holds ws l (levelIs i it) = getD (blockAt ws 0 .even .levels) i (level 0 []) ≡ it
+Holds ws l (levelIs i it) = getD (blockAt ws 0 .even .levels) i (levelOf 0 []) ≡ it
 Holds ws l (answers call reply) = perform ws call .reply ≡ reply
 Holds ws l (exactly call reply) = enter 90 l call .reply ≡ reply
 Holds ws l (servedFrom window i) =
     let s = shapeOf ws in
     let start = opening (clockOf ws) window in
     let levels = halfOf (interval s start) (blockAt ws 0) .levels in
-    serving (offsetOf s start) levels ≡ getD levels i (level 0 [])
+    let a = offsetOf s start in
+    (past a (take i levels) ≡ true) × (serving a levels ≡ getD levels i (levelOf 0 []))
 
 abbrev pub words : List ℕ → List Call → List ℕ
 words ws [] = ws
@@ -52,7 +60,7 @@ pub record Example : Type 0 where
 abbrev pub Meets : Example → Type 0
 Meets e =
     let calls = e .start ++ e .calls in
-    Each (Holds (words (replicate 90 0) calls) (entered (ledger (shape 2 2 4 1) 0 []) calls)) (e .facts)
+    Each (Holds (words (replicate 90 0) calls) (entered (ledgerOf (shaped 2 2 4 1) 0 []) calls)) (e .facts)
 
 -- shape 2, 2, 4, 1 with the clock at 3
 abbrev pub start : List Call
@@ -84,26 +92,26 @@ example calls facts = record { start = start; calls = calls; facts = facts }
 abbrev pub table : List Example
 table =
     -- P1
-    example p₁ (levelIs 1 (level 0 (bucket 0 4 3 ∷ [])) ∷ [])
+    example p₁ (levelIs 1 (levelOf 0 (bucketOf 0 4 3 ∷ [])) ∷ [])
     -- P2
-    ∷ example p₂ (levelIs 1 (level 0 (bucket 0 2 2 ∷ bucket 2 2 2 ∷ [])) ∷ [])
+    ∷ example p₂ (levelIs 1 (levelOf 0 (bucketOf 0 2 2 ∷ bucketOf 2 2 2 ∷ [])) ∷ [])
     -- P3, P4 and P5
     ∷ example p₃
-    (levelIs 0 (level 1 (bucket 1 1 1 ∷ bucket 3 1 1 ∷ []))
-    ∷ levelIs 1 (level 0 (bucket 0 2 3 ∷ bucket 2 2 2 ∷ []))
+    (levelIs 0 (levelOf 1 (bucketOf 1 1 1 ∷ bucketOf 3 1 1 ∷ []))
+    ∷ levelIs 1 (levelOf 0 (bucketOf 0 2 3 ∷ bucketOf 2 2 2 ∷ []))
     ∷ answers (Query 0 2) (accepted (2 ∷ []))
     ∷ answers (Query 0 3) (accepted (5 ∷ []))
     ∷ servedFrom 3 1
     ∷ [])
     -- P6
     ∷ example p₆
-    (levelIs 1 (level 1 (bucket 1 1 2 ∷ bucket 2 2 2 ∷ []))
+    (levelIs 1 (levelOf 1 (bucketOf 1 1 2 ∷ bucketOf 2 2 2 ∷ []))
     ∷ answers (Query 0 3) (accepted (6 ∷ []))
     ∷ servedFrom 3 2
     ∷ [])
     -- P7, with what the ledger has, and P9 at each stamp
     ∷ example p₇
-    (levelIs 2 (level 0 (bucket 0 2 4 ∷ bucket 2 2 4 ∷ []))
+    (levelIs 2 (levelOf 0 (bucketOf 0 2 4 ∷ bucketOf 2 2 4 ∷ []))
     ∷ answers (Query 0 2) (accepted (4 ∷ []))
     ∷ exactly (Query 0 2) (accepted (5 ∷ []))
     ∷ answers (d 0 8) (accepted [])
@@ -115,8 +123,9 @@ table =
     ∷ answers (d 2 9) (refused 12)
     ∷ answers (d 3 9) (refused 12)
     ∷ [])
-    -- P8
-    ∷ example (p₂ ++ d 0 5 ∷ []) (levelIs 1 (level 1 (bucket 1 1 2 ∷ bucket 2 2 2 ∷ [])) ∷ [])
+    -- P8: of the five the last three change nothing at level 1
+    ∷ example (p₂ ++ d 0 2 ∷ []) (levelIs 1 (levelOf 1 (bucketOf 1 1 2 ∷ bucketOf 2 2 2 ∷ [])) ∷ [])
+    ∷ example (p₂ ++ d 0 5 ∷ []) (levelIs 1 (levelOf 1 (bucketOf 1 1 2 ∷ bucketOf 2 2 2 ∷ [])) ∷ [])
     -- P10
     ∷ example (p₇ ++ Clock 8 ∷ [])
     (answers (d 4 1) (accepted [])
@@ -132,16 +141,19 @@ table-holds = (
   (
     (refl, tt),
     (
-      (refl, (refl, (refl, (refl, (refl, tt))))),
+      (refl, (refl, (refl, (refl, ((refl, refl), tt))))),
       (
-        (refl, (refl, (refl, tt))),
+        (refl, (refl, ((refl, refl), tt))),
         (
           (refl, (refl, (refl, (refl, (refl, (refl, (refl, (refl, (refl, (refl, (refl, tt))))))))))),
           (
             (refl, tt),
             (
-              (refl, (refl, (refl, tt))),
-              tt,
+              (refl, tt),
+              (
+                (refl, (refl, (refl, tt))),
+                tt,
+              ),
             ),
           ),
         ),

@@ -3,20 +3,20 @@ use mathlib.Core.List.{List, [], _∷_, _++_, map}
 use Prim.Native.Nat.{ℕ, zero, suc, _+_, _-_, _*_}
 use lib.ListN.{length, getD, take, drop, replicate}
 use Rattle.shape.specs.declared.Shape.{Shape}
-use Rattle.shape.specs.Limits.{shape}
-use Rattle.shape.specs.Layout.{levelWords, levelStart, blockWords, blockStart}
-use Rattle.model.specs.Level.{Bucket, Level, bucket, level}
+use Rattle.shape.specs.Limits.{shaped}
+use Rattle.shape.specs.Layout.{slotStart, levelWords, levelStart, blockWords, blockStart}
+use Rattle.model.specs.Level.{Bucket, Level, bucketOf, levelOf}
 use Rattle.model.specs.Block.{Half, Block, upFrom}
 
 abbrev pub slot : List ℕ → ℕ → Bucket  -- document 01's place j of a level: offset, length, weight
-slot ws j = bucket (getD ws (2 + 3 * j) 0) (getD ws (2 + 3 * j + 1) 0) (getD ws (2 + 3 * j + 2) 0)
+slot ws j = bucketOf (getD ws (slotStart j) 0) (getD ws (slotStart j + 1) 0) (getD ws (slotStart j + 2) 0)
 
 abbrev pub slots : List ℕ → ℕ → ℕ → List Bucket  -- c slots from slot j on
 slots ws j zero = []
 slots ws j (suc c) = slot ws j ∷ slots ws (j + 1) c
 
 unfoldable pub decodeLevel : List ℕ → Level  -- a level is its count, F, then its slots
-decodeLevel ws = level (getD ws 1 0) (slots ws 0 (getD ws 0 0))
+decodeLevel ws = levelOf (getD ws 1 0) (slots ws 0 (getD ws 0 0))
 
 abbrev pub levelPart : Shape → ℕ → ℕ → List ℕ → List ℕ  -- the words of a level as a part of the block's; parity 0 is the even half
 levelPart s parity i ws = take (levelWords s) (drop (levelStart s parity i) ws)
@@ -33,7 +33,7 @@ abbrev pub blockPart : Shape → ℕ → List ℕ → List ℕ  -- the words of 
 blockPart s grade ws = take (blockWords s) (drop (blockStart s grade) ws)
 
 abbrev pub shapeOf : List ℕ → Shape  -- the shape and the clock that a head names
-shapeOf ws = shape (getD ws 0 0) (getD ws 1 0) (getD ws 2 0) (getD ws 3 0)
+shapeOf ws = shaped (getD ws 0 0) (getD ws 1 0) (getD ws 2 0) (getD ws 3 0)
 
 abbrev pub clockOf : List ℕ → ℕ
 clockOf ws = getD ws 4 0

@@ -2,9 +2,13 @@
 use Prim.Native.Nat.{ℕ, _+_, _*_}
 use Rattle.shape.specs.declared.Shape.{Shape}
 
--- a level is its count, its first kept offset and n slots of three words
+-- a level is its count, its first kept offset, then slots of three words; where slot j starts
+abbrev pub slotStart : ℕ → ℕ
+slotStart j = 2 + 3 * j
+
+-- a level has n slots
 abbrev pub levelWords : Shape → ℕ
-levelWords s = 2 + 3 * s .n
+levelWords s = slotStart (s .n)
 
 -- a block is two totals and the levels of two halves
 unfoldable pub blockWords : Shape → ℕ

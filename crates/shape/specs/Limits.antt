@@ -1,4 +1,4 @@
--- The limits of a shape and of the other numbers of a call, and what the constructor of a shape answers. Assumes nothing.
+-- The limits of a shape, and what the constructor of a shape answers. Assumes nothing.
 use mathlib.Core.Bool.{Bool, cond, _&&_}
 use mathlib.Core.List.{List, [], _∷_}
 use Prim.Native.Nat.{ℕ}
@@ -33,8 +33,8 @@ abbrev pub lastLevel : ℕ → ℕ → ℕ
 lastLevel n m = m
 
 -- the shape of these numbers, whatever they are
-abbrev pub shape : ℕ → ℕ → ℕ → ℕ → Shape
-shape k n m g = record { k = k; n = n; m = m; g = g; last = lastLevel n m }
+abbrev pub shaped : ℕ → ℕ → ℕ → ℕ → Shape
+shaped k n m g = record { k = k; n = n; m = m; g = g; last = lastLevel n m }
 
 -- a shape as values
 abbrev pub valuesOf : Shape → List ℕ
@@ -42,9 +42,9 @@ valuesOf s = s .k ∷ s .n ∷ s .m ∷ s .g ∷ s .last ∷ []
 
 -- what the constructor of a shape must answer: the shape, or refusal 1
 unfoldable pub checked : ℕ → ℕ → ℕ → ℕ → Reply
-checked k n m g = cond (within k n m g) (accepted (valuesOf (shape k n m g))) (refused 1)
+checked k n m g = cond (within k n m g) (accepted (valuesOf (shaped k n m g))) (refused 1)
 
 -- the number and the values of each case of the constructor's answer
-unfoldable pub reply : Checked → Reply
-reply (Within s) = accepted (valuesOf s)
-reply Outside = refused 1
+unfoldable pub replyOf : Checked → Reply
+replyOf (Within s) = accepted (valuesOf s)
+replyOf Outside = refused 1

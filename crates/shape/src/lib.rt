@@ -1,9 +1,10 @@
 // The shape of a book: its limits, and how many words its parts take.
 ghost use mathlib.Core.Path.{_≡_};
 ghost use Rattle.shape.specs.Layout.{bookWords, blockWords, blockStart, levelWords, levelStart};
-ghost use Rattle.shape.specs.Limits.{between, reply, checked};
+ghost use Rattle.shape.specs.Limits.{between, replyOf, checked};
 
-// Document 01's shape. Only `Shape::new` is held to the limits; every method is defined on any fields.
+// Document 01's shape. Only what `Shape::new` gives is held to the limits, and only that has document 01's lengths; every method is
+// defined on any fields.
 pub struct Shape {
     // An interval is 2 ^ k ticks.
     pub k: u8,
@@ -51,7 +52,7 @@ impl Shape {
     pub const G_MAX: u32 = 8;
 
     pub fn new(k: u32, n: u32, m: u32, g: u32) -> Checked
-        ensures { λ r. ⌜ reply r ≡ checked k n m g ⌝ }
+        ensures { λ r. ⌜ replyOf r ≡ checked k n m g ⌝ }
     {
         if !is_between(Self::K_MIN, k, Self::K_MAX) {
             return Checked::Outside;

@@ -9,7 +9,7 @@ use native.Mathlib.Nat.{le-refl}
 use native.Mathlib.Omega.{arith}
 use lib.Dec.{leb, eqb}
 use lib.ListN.{length}
-use Rattle.model.specs.Level.{Bucket, Level, bucket, level, put, evict, unit, insert}
+use Rattle.model.specs.Level.{Bucket, Level, bucketOf, levelOf, put, evict, unit, insert}
 use Rattle.model.specs.Block.{sumFrom}
 use Rattle.laws.specs.Cases.{by-lt, by-le, by-eq, lt-or-ge}
 use Rattle.laws.specs.Tally.{share, more, AtLeast, at-least-less, share-all, share-none, share-suc, share-falls, sumFrom-all, sumFrom-falls}
@@ -31,7 +31,7 @@ pub record Highest (k n : ℕ) (c : ℕ → ℕ) (l : Level) : Type 0 where
 
 -- ---- the edge is kept
 
-evict-edge : (k n : ℕ) (c : ℕ → ℕ) (first : ℕ) (bs : List Bucket) → Follows k 0 c first bs → Edge c (level first bs) → Edge c (evict n 0 first bs)
+evict-edge : (k n : ℕ) (c : ℕ → ℕ) (first : ℕ) (bs : List Bucket) → Follows k 0 c first bs → Edge c (levelOf first bs) → Edge c (evict n 0 first bs)
 evict-edge k n c first [] g edge = edge
 evict-edge k n c first (b ∷ bs) g edge =
     by-eq (suc (length bs)) (n + 1) (Edge c)
@@ -89,7 +89,7 @@ head-shows b bs others some above same =
       sumFrom-all (suc o) others above,
     )
 
-same-bucket : {o o′ w w′ g g′ : ℕ} → o ≡ o′ → w ≡ w′ → g ≡ g′ → bucket o w g ≡ bucket o′ w′ g′
+same-bucket : {o o′ w w′ g g′ : ℕ} → o ≡ o′ → w ≡ w′ → g ≡ g′ → bucketOf o w g ≡ bucketOf o′ w′ g′
 same-bucket p q r = rw (p, q, r)
 
 -- two rising lists with the same sums from a on

@@ -4,7 +4,7 @@ use mathlib.Core.Path.{_≡_, sym, _∙_}
 use native.Mathlib.Omega.{arith}
 use borrow.Author.Needs.{needs}
 use borrow.Author.Tests.{not-true, not-false}
-use Rattle.shape.specs.Limits.{between, within, checked, reply}
+use Rattle.shape.specs.Limits.{between, within, checked, replyOf}
 use Rattle.shape.specs.LimitsLaws.{within-limits}
 use Rattle.shape.proofs.Shape.new.Statement.{statement}
 use Rattle.shape.proofs.Shape.new.Tie as tie
@@ -40,21 +40,21 @@ is-between-requires : tie.Need-is-between-requires
 is-between-requires c κs = search needs
 
 returns : tie.Need-returns
-unfolding reply checked within
+unfolding replyOf checked within
 returns c = simp (sym (c .before .is-between .ensures) ∙ not-true _ (c .if1 .taken))
 
 is-between-requires-2 : tie.Need-is-between-requires-2
 is-between-requires-2 c κs = search needs
 
 returns-2 : tie.Need-returns-2
-unfolding reply checked within
+unfolding replyOf checked within
 returns-2 c = simp (k-in (c .before .before), sym (c .before .is-between2 .ensures) ∙ not-true _ (c .if2 .taken))
 
 is-between-requires-3 : tie.Need-is-between-requires-3
 is-between-requires-3 c κs = search needs
 
 returns-3 : tie.Need-returns-3
-unfolding reply checked within
+unfolding replyOf checked within
 returns-3 c =
     simp (
       k-in (c .before .before .before .before),
@@ -66,7 +66,7 @@ is-between-requires-4 : tie.Need-is-between-requires-4
 is-between-requires-4 c κs = search needs
 
 returns-4 : tie.Need-returns-4
-unfolding reply checked
+unfolding replyOf checked
 returns-4 c = simp (last-decides (c .before) ∙ not-true _ (c .if4 .taken))
 
 cast-t7 : tie.Need-cast-t7
@@ -85,7 +85,7 @@ cast-t11 : tie.Need-cast-t11
 cast-t11 c = omega (arith, within-limits _ _ _ _ (all-in c))
 
 returns-5 : tie.Need-returns-5
-unfolding reply checked
+unfolding replyOf checked
 returns-5 c = simp (all-in c)
 
 pub new-spec : {M : Type 1} → statement M

@@ -18,3 +18,5 @@ pub mod BlockWrites
 pub mod BookWords
 pub mod Place
 pub mod Proper
+pub mod BlockKept
+pub mod Refusals

@@ -1,4 +1,4 @@
--- Book and ledger find the same first refusal for every call; and what an accepted call, and one refused as late, tell.
+-- Book and ledger find the same first refusal for every call.
 -- Rests on the words of a ledger being a sound book.
 use mathlib.Core.Bool.{Bool, true, false, cond, not, _||_}
 use mathlib.Core.Path.{_≡_, refl, sym, ap, _∙_}
@@ -19,7 +19,7 @@ use Rattle.model.specs.Sound.{allFrom, maxClock, soundHead, soundBlock}
 use Rattle.model.specs.Calls.{View, firstOf, refusals, bookView}
 use Rattle.model.specs.Ledger.{Entry, ledgerOf, ledgerView, volumeOf, ofInterval}
 use Rattle.laws.specs.Parts.{allFrom-intro}
-use Rattle.ledger.specs.First.{past, further}
+use Rattle.laws.specs.Refusals.{past}
 use Rattle.ledger.specs.Time.{interval-mono, interval-near}
 use Rattle.ledger.specs.Grown.{halfFed}
 use Rattle.ledger.specs.Book.{halfOf-served}
@@ -76,63 +76,3 @@ module _ (k n m g clock : ℕ) (es : List Entry) where
         (past (ltb (length ws) 8) 2 (λ _. past (not (eqb (length ws) (bookWords s))) 2 (λ _. past (not (ltb grade g)) 3 (λ inside.
         let h : grade < g = ltb-true grade g (not-false (ltb grade g) inside) in
         rw (words-sound k n m g clock es good grade h)))))
-
-  -- ---- what the ledger's first refusal tells
-
-  ended : (a b : Bool) → _≡_ {A = ℕ} (cond a 9 (cond b 12 0)) 9 → a ≡ true
-  ended true b h = refl
-  ended false true h = absurd (omega arith)
-  ended false false h = absurd (omega arith)
-
-  module _ (grade stamp volume : ℕ) where
-    -- a delivery that is accepted, or refused as late or full
-    reached : (z : ℕ) → (2 ≡ z → ⊥) → (3 ≡ z → ⊥) → (4 ≡ z → ⊥) → (8 ≡ z → ⊥) → firstOf (refusals exactView (Delivery grade stamp volume)) ≡ z
-        → (grade < g) × (stamp ≤ clock)
-        × (cond (late s clock stamp) 9 (cond (ltb (2 ^ m) (volumeOf (ofInterval s grade (interval s stamp)) es + volume)) 12 0) ≡ z)
-    unfolding refusals ledgerView
-    reached z two three four eight h =
-        let size = further (ltb (length ws) 8) 2 two h in
-        let whole = further (not (eqb (length ws) (bookWords s))) 2 two (size .1) in
-        let inside = further (not (ltb grade g)) 3 three (whole .1) in
-        let amount = further (eqb volume 0 || ltb 65535 volume) 4 four (inside .1) in
-        let low = further (ltb clock stamp) 8 eight (amount .1) in
-        (ltb-true grade g (not-false (ltb grade g) (inside .0)), ltb-false clock stamp (low .0), low .1)
-
-    pub late-stamp : firstOf (refusals exactView (Delivery grade stamp volume)) ≡ 9 → late s clock stamp ≡ true
-    late-stamp h =
-        ended (late s clock stamp) (ltb (2 ^ m) (volumeOf (ofInterval s grade (interval s stamp)) es + volume))
-        (reached 9 (λ e. omega arith) (λ e. omega arith) (λ e. omega arith) (λ e. omega arith) h .2)
-
-    pub accepted-delivery : firstOf (refusals exactView (Delivery grade stamp volume)) ≡ 0
-        → (grade < g) × (stamp ≤ clock) × (clock ≤ stamp + 2 ^ k) × (volumeOf (ofInterval s grade (interval s stamp)) es + volume ≤ 2 ^ m)
-    accepted-delivery h =
-        let there = reached 0 (λ e. omega arith) (λ e. omega arith) (λ e. omega arith) (λ e. omega arith) h in
-        let high = further (late s clock stamp) 9 (λ e. omega arith) (there .2) in
-        let room = further (ltb (2 ^ m) (volumeOf (ofInterval s grade (interval s stamp)) es + volume)) 12 (λ e. omega arith) (high .1) in
-        (there .0, there .1, ltb-false (stamp + 2 ^ k) clock (high .0), ltb-false (2 ^ m) _ (room .0))
-
-  pub accepted-query : (grade window : ℕ) → firstOf (refusals exactView (Query grade window)) ≡ 0 → (grade < g) × (window ≤ 2 ^ k)
-  unfolding refusals ledgerView
-  accepted-query grade window h =
-      let size = further (ltb (length ws) 8) 2 (λ e. omega arith) h in
-      let whole = further (not (eqb (length ws) (bookWords s))) 2 (λ e. omega arith) (size .1) in
-      let inside = further (not (ltb grade g)) 3 (λ e. omega arith) (whole .1) in
-      let short = further (ltb (2 ^ k) window) 5 (λ e. omega arith) (inside .1) in
-      (ltb-true grade g (not-false (ltb grade g) (inside .0)), ltb-false (2 ^ k) window (short .0))
-
-  pub accepted-clock : (to : ℕ) → firstOf (refusals exactView (Clock to)) ≡ 0 → (to ≤ maxClock) × (clock ≤ to)
-  unfolding refusals ledgerView
-  accepted-clock to h =
-      let size = further (ltb (length ws) 8) 2 (λ e. omega arith) h in
-      let whole = further (not (eqb (length ws) (bookWords s))) 2 (λ e. omega arith) (size .1) in
-      let early = further (ltb maxClock to) 6 (λ e. omega arith) (whole .1) in
-      let later = further (ltb to clock) 10 (λ e. omega arith) (early .1) in
-      (ltb-false maxClock to (early .0), ltb-false to clock (later .0))
-
--- an accepted make, on whatever words and whatever view
-pub accepted-make : (v : View) (k n m g : ℕ) → firstOf (refusals v (Make k n m g)) ≡ 0 → (within k n m g ≡ true) × (v .lent ≡ bookWords (shaped k n m g))
-unfolding refusals
-accepted-make v k n m g h =
-    let inside = further (not (within k n m g)) 1 (λ e. omega arith) h in
-    let size = further (not (eqb (v .lent) (bookWords (shaped k n m g)))) 2 (λ e. omega arith) (inside .1) in
-    (not-false (within k n m g) (inside .0), eqb-true (v .lent) (bookWords (shaped k n m g)) (not-false _ (size .0)))

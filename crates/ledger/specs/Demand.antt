@@ -15,15 +15,15 @@ use Rattle.model.specs.declared.Call.{Call}
 use Rattle.model.specs.declared.Call.the-variants.{Make, Clock, Delivery, Query}
 use Rattle.model.specs.Block.{late, answer, opening}
 use Rattle.model.specs.Words.{shapeOf, clockOf}
-use Rattle.model.specs.Calls.{blockAt, firstOf, refusals, bookView, accept, perform, made, clocked, delivered}
+use Rattle.model.specs.Calls.{View, blockAt, firstOf, refusals, bookView, accept, perform, made, clocked, delivered}
 use Rattle.model.specs.Ledger.{Entry, Ledger, ledgerOf, ledgerView, note, enter}
 use Rattle.model.specs.Claim.{Turn, run, Each, ByCall, Bound, Span, Outside, Missed, Kept, Claim}
 use Rattle.laws.specs.Cases.{eq-or-ne}
-use Rattle.ledger.specs.First.{settle-accepted, settle-refused, perform-number, enter-number}
+use Rattle.laws.specs.Refusals.{accepted-make, accepted-clock, accepted-delivery, accepted-query, late-delivery, settle-accepted, settle-refused, perform-number, enter-number}
 use Rattle.ledger.specs.Time.{late-outside}
 use Rattle.ledger.specs.Book.{blockFor}
 use Rattle.ledger.specs.State.{Good, wordsOf}
-use Rattle.ledger.specs.Agree.{agree, late-stamp, accepted-delivery, accepted-query, accepted-clock, accepted-make}
+use Rattle.ledger.specs.Agree.{agree}
 use Rattle.ledger.specs.Next.{made-words, made-good, shape-is, clock-is, block-is, clocked-words, clocked-good, delivered-words, delivered-good}
 use Rattle.ledger.specs.Window.{answer-admits}
 
@@ -51,11 +51,14 @@ module _ (k n m g clock : ℕ) (es : List Entry) (good : Good k n m g clock es) 
   abbrev l : Ledger
   l = ledgerOf s clock es
 
+  abbrev exactView : View
+  exactView = ledgerView (length ws) l
+
   abbrev first : Call → ℕ
   first call = firstOf (refusals (bookView ws) call)
 
   abbrev exactFirst : Call → ℕ
-  exactFirst call = firstOf (refusals (ledgerView (length ws) l) call)
+  exactFirst call = firstOf (refusals exactView call)
 
   same-first : (call : Call) → first call ≡ exactFirst call
   same-first = agree k n m g clock es good
@@ -112,8 +115,9 @@ module _ (k n m g clock : ℕ) (es : List Entry) (good : Good k n m g clock es) 
       }
 
   clock-next : (to : ℕ) → first (Clock to) ≡ 0 → Next k n m g clock es (Clock to)
+  unfolding ledgerView
   clock-next to h =
-      let facts = accepted-clock k n m g clock es to (exact-first (Clock to) h) in
+      let facts = accepted-clock exactView to (exact-first (Clock to) h) in
       record {
         k′ = k;
         n′ = n;
@@ -121,17 +125,18 @@ module _ (k n m g clock : ℕ) (es : List Entry) (good : Good k n m g clock es) 
         g′ = g;
         clock′ = to;
         es′ = es;
-        good = clocked-good k n m g clock es good to (facts .1) (facts .0);
+        good = clocked-good k n m g clock es good to (facts .later) (facts .early);
         book = ap (λ o. o .left) (book-accepted (Clock to) h) ∙ ap (λ (z : Shape). clocked z to ws) (shape-is k n m g clock es good)
-            ∙ clocked-words k n m g clock es good to (facts .1);
+            ∙ clocked-words k n m g clock es good to (facts .later);
         exact = ap (λ o. o .left) (exact-accepted (Clock to) h);
-        span = λ _. (refl, facts .1);
+        span = λ _. (refl, facts .later);
       }
 
   delivery-next : (grade stamp volume : ℕ) → first (Delivery grade stamp volume) ≡ 0 → Next k n m g clock es (Delivery grade stamp volume)
+  unfolding ledgerView
   delivery-next grade stamp volume h =
       let call : Call = Delivery grade stamp volume in
-      let facts = accepted-delivery k n m g clock es grade stamp volume (exact-first call h) in
+      let facts = accepted-delivery exactView grade stamp volume (exact-first call h) in
       let e : Entry = record { grade = grade; stamp = stamp; volume = volume } in
       record {
         k′ = k;
@@ -140,9 +145,9 @@ module _ (k n m g clock : ℕ) (es : List Entry) (good : Good k n m g clock es) 
         g′ = g;
         clock′ = clock;
         es′ = e ∷ es;
-        good = delivered-good k n m g clock es good e (facts .0) (facts .1) (facts .2) (facts .3);
+        good = delivered-good k n m g clock es good e (facts .inside) (facts .low) (facts .high) (facts .room);
         book = ap (λ o. o .left) (book-accepted call h) ∙ ap (λ (z : Shape). delivered z grade stamp volume ws) (shape-is k n m g clock es good)
-            ∙ delivered-words k n m g clock es good e (facts .0) (facts .1) (facts .2);
+            ∙ delivered-words k n m g clock es good e (facts .inside) (facts .low) (facts .high);
         exact = ap (λ o. o .left) (exact-accepted call h);
         span = λ _. (refl, le-refl clock);
       }
@@ -181,12 +186,13 @@ module _ (k n m g clock : ℕ) (es : List Entry) (good : Good k n m g clock es) 
   answer-is grade window h = ap (answer s clock (opening clock window)) (block-is k n m g clock es good grade h)
 
   query-bound : (grade window : ℕ) → Bound (turn (Query grade window))
+  unfolding ledgerView
   query-bound grade window number room =
       let call : Call = Query grade window in
       let h : first call ≡ 0 = sym (perform-number ws call) ∙ number in
-      let facts = accepted-query k n m g clock es grade window (exact-first call h) in
-      rw (book-accepted call h, exact-accepted call h, answer-is grade window (facts .0))
-      (answer-admits k n m g clock es good room grade window (facts .1))
+      let facts = accepted-query exactView grade window (exact-first call h) in
+      rw (book-accepted call h, exact-accepted call h, answer-is grade window (facts .inside))
+      (answer-admits k n m g clock es good room grade window (facts .short))
 
   turn-bound : (call : Call) → Bound (turn call)
   turn-bound (Make k′ n′ m′ g′) = tt
@@ -195,9 +201,10 @@ module _ (k n m g clock : ℕ) (es : List Entry) (good : Good k n m g clock es) 
   turn-bound (Query grade window) = query-bound grade window
 
   turn-late : (grade stamp volume : ℕ) → turn (Delivery grade stamp volume) .book .number ≡ 9 → late s clock stamp ≡ true
+  unfolding ledgerView
   turn-late grade stamp volume number =
       let call : Call = Delivery grade stamp volume in
-      late-stamp k n m g clock es grade stamp volume (sym (same-first call) ∙ sym (perform-number ws call) ∙ number)
+      late-delivery exactView grade stamp volume (sym (same-first call) ∙ sym (perform-number ws call) ∙ number)
 
   -- ---- what is late stays so through the span
 

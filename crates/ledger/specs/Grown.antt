@@ -13,7 +13,8 @@ use Rattle.model.specs.Block.{Half, Block, upFrom, interval, offsetOf, emptyHal
 use Rattle.model.specs.Ledger.{Entry, Ledger, volumeOf, ofInterval}
 use Rattle.model.specs.Claim.{Each}
 use Rattle.ledger.specs.Time.{offset-lt}
-use Rattle.theory.specs.Fed.{Event, fed, counted, Inside, insertAll-fed}
+use Rattle.laws.specs.BlockKept.{insertAll-upFrom}
+use Rattle.theory.specs.Fed.{Event, fed, counted, Inside}
 
 -- the entries that satisfy a test, as events of an interval
 abbrev pub events : Shape → (Entry → Bool) → List Entry → List Event
@@ -75,7 +76,7 @@ unfolding halfFed deliverHalf
 deliverHalf-fed s total x v vs =
     ap₂ (λ (t : ℕ) (ls : List Level). record { total = t; levels = ls })
     (add-comm total v)
-    (insertAll-fed (s .k) (s .n) (record { at = x; vol = v }) vs 0 (suc (s .last)))
+    (insertAll-upFrom (s .n) x v (λ i. fed (s .k) (s .n) i vs) 0 (suc (s .last)))
 
 module _ (s : Shape) (p : Entry → Bool) (e : Entry) (es : List Entry) where
   -- it satisfies the test: a delivery into the half

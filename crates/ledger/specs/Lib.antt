@@ -1,4 +1,3 @@
-pub mod First
 pub mod Time
 pub mod Grown
 pub mod Served
@@ -8,3 +7,4 @@ pub mod Agree
 pub mod Next
 pub mod Window
 pub mod Demand
+pub mod Apart

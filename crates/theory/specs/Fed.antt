@@ -55,9 +55,3 @@ module _ (k n i : ℕ) (two : 2 ≤ n) where
 pub fed-exact : (k n : ℕ) → 2 ≤ n → (es : List Event) → Inside k es
     → (t : ℕ) → fed k n 0 es .first ≤ t → sumFrom t (fed k n 0 es .buckets) ≡ counted es t
 fed-exact k n two es inside t h = fed-tracks k n 0 two es inside .follows .1 t h
-
--- a delivery into consecutive levels is one event more in each
-pub insertAll-fed : (k n : ℕ) (e : Event) (es : List Event) (i c : ℕ)
-    → insertAll n i (e .at) (e .vol) (upFrom (λ j. fed k n j es) i c) ≡ upFrom (λ j. fed k n j (e ∷ es)) i c
-insertAll-fed k n e es i zero = refl
-insertAll-fed k n e es i (suc c) = ap (λ (z : List Level). fed k n i (e ∷ es) ∷ z) (insertAll-fed k n e es (suc i) c)

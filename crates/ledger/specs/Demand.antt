@@ -74,9 +74,17 @@ module _ (k n m g clock : ℕ) (es : List Entry) (good : Good k n m g clock es) 
     unfolding enter
     exact-accepted h = settle-accepted (refusals (ledgerView (length ws) l) call) l (note l call) (sym (same-first call) ∙ h)
 
-    refused-next : (first call ≡ 0 → ⊥) → Next k n m g clock es call
-    unfolding perform enter
-    refused-next h = record {
+    -- a refused call changes neither
+    book-refused : (first call ≡ 0 → ⊥) → perform ws call .left ≡ ws
+    unfolding perform
+    book-refused h = ap (λ o. o .left) (settle-refused (refusals (bookView ws) call) ws (accept ws call) h)
+
+    exact-refused : (first call ≡ 0 → ⊥) → enter (length ws) l call .left ≡ l
+    unfolding enter
+    exact-refused h = ap (λ o. o .left) (settle-refused (refusals exactView call) l (note l call) (λ e. h (same-first call ∙ e)))
+
+    same-next : perform ws call .left ≡ ws → enter (length ws) l call .left ≡ l → Next k n m g clock es call
+    same-next book exact = record {
       k′ = k;
       n′ = n;
       m′ = m;
@@ -84,8 +92,8 @@ module _ (k n m g clock : ℕ) (es : List Entry) (good : Good k n m g clock es) 
       clock′ = clock;
       es′ = es;
       good = good;
-      book = ap (λ o. o .left) (settle-refused (refusals (bookView ws) call) ws (accept ws call) h);
-      exact = ap (λ o. o .left) (settle-refused (refusals (ledgerView (length ws) l) call) l (note l call) (λ e. h (same-first call ∙ e)));
+      book = book;
+      exact = exact;
       span = λ _. (refl, le-refl clock);
     }
 
@@ -152,28 +160,16 @@ module _ (k n m g clock : ℕ) (es : List Entry) (good : Good k n m g clock es) 
         span = λ _. (refl, le-refl clock);
       }
 
-  query-next : (grade window : ℕ) → first (Query grade window) ≡ 0 → Next k n m g clock es (Query grade window)
-  query-next grade window h = record {
-    k′ = k;
-    n′ = n;
-    m′ = m;
-    g′ = g;
-    clock′ = clock;
-    es′ = es;
-    good = good;
-    book = ap (λ o. o .left) (book-accepted (Query grade window) h);
-    exact = ap (λ o. o .left) (exact-accepted (Query grade window) h);
-    span = λ _. (refl, le-refl clock);
-  }
-
   accepted-next : (call : Call) → first call ≡ 0 → Next k n m g clock es call
   accepted-next (Make k′ n′ m′ g′) h = make-next k′ n′ m′ g′ h
   accepted-next (Clock to) h = clock-next to h
   accepted-next (Delivery grade stamp volume) h = delivery-next grade stamp volume h
-  accepted-next (Query grade window) h = query-next grade window h
+  accepted-next (Query grade window) h =
+      let call : Call = Query grade window in
+      same-next call (ap (λ o. o .left) (book-accepted call h)) (ap (λ o. o .left) (exact-accepted call h))
 
   pub next : (call : Call) → Next k n m g clock es call
-  next call = ⊎-elim (accepted-next call) (refused-next call) (eq-or-ne (first call) 0)
+  next call = ⊎-elim (accepted-next call) (λ h. same-next call (book-refused call h) (exact-refused call h)) (eq-or-ne (first call) 0)
 
   -- ---- one turn
 

@@ -59,3 +59,11 @@ relative k n last es inside room small a h =
 -- the same exact volume more on both sides keeps the bound
 pub admits-more : (n k book exact more : ℕ) → Admits n k book exact → Admits n k (book + more) (exact + more)
 admits-more n k book exact more a = omega (arith, add-mul book more (n - (k + 1)), add-mul exact more (n - (k + 1)))
+
+-- the same as a nearness: the error times n - k - 1 is at most 2 * (k + 1) times the exact sum
+pub relative-near : (k n last : ℕ) (es : List Event) → Inside k es → k + 1 < n → counted es 0 < n * 2 ^ last → (a : ℕ) → a < 2 ^ k
+    → let book = sumFrom a (serving a (upFrom (λ i. fed k n i es) 0 (suc last)) .buckets) in
+    Near (2 * (k + 1) * counted es a) (book * (n - (k + 1))) (counted es a * (n - (k + 1)))
+relative-near k n last es inside room small a h =
+    let r = relative k n last es inside room small a h in
+    record { above = r .above; below = r .below }

@@ -20,3 +20,4 @@ pub mod Place
 pub mod Proper
 pub mod BlockKept
 pub mod Refusals
+pub mod Sweep

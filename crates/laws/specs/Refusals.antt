@@ -71,6 +71,9 @@ opened-facts v two seven h =
     let size = further (not (eqb (v .lent) (bookWords (v .shape)))) 2 two (head .1) in
     (not-false _ (head .0), eqb-true (v .lent) (bookWords (v .shape)) (not-false _ (size .0)), size .1)
 
+pub opened-accepted : (v : View) → firstOf (opened v) ≡ 0 → (v .headSound ≡ true) × (v .lent ≡ bookWords (v .shape))
+opened-accepted v h = let f = opened-facts v {y = 0} (λ e. omega arith) (λ e. omega arith) h in (f .0, f .1)
+
 pub record AcceptedDelivery (v : View) (grade stamp volume : ℕ) : Type 0 where
   pub head : v .headSound ≡ true
   pub size : v .lent ≡ bookWords (v .shape)

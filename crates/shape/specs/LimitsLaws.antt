@@ -1,11 +1,15 @@
 -- What passing the tests of the limits tells. Assumes nothing.
 use mathlib.Core.Bool.{Bool, true, false, _&&_}
-use mathlib.Core.Path.{_≡_}
+use mathlib.Core.Path.{_≡_, refl, ap}
+use mathlib.Core.List.{List}
 use Prim.Native.Nat.{ℕ, _≤_}
 use native.Mathlib.Omega.{arith}
 use lib.Dec.{leb}
+use lib.ListN.{getD}
 use borrow.Author.Tests.{leb-true}
-use Rattle.shape.specs.Limits.{between, within}
+use Rattle.shape.specs.declared.Shape.{Shape}
+use Rattle.shape.specs.declared.Checked.the-variants.{Within, Outside}
+use Rattle.shape.specs.Limits.{Reply, between, within, shaped, checked, replyOf}
 
 -- both parts of a conjunction that is true
 pub both : {a b : Bool} → (a && b) ≡ true → (a ≡ true) × (b ≡ true)
@@ -42,3 +46,26 @@ within-limits k n m g e =
       between-limits 1 m 24 (m-g .0),
       between-limits 1 g 8 (m-g .1),
     )
+
+-- ---- what the constructor's answer tells
+
+-- the shape whose values these are
+abbrev shapeIn : List ℕ → Shape
+shapeIn vs = record { k = getD vs 0 0; n = getD vs 1 0; m = getD vs 2 0; g = getD vs 3 0; last = getD vs 4 0 }
+
+module _ (k n m g : ℕ) where
+  pub checked-within : (s : Shape) → replyOf (Within s) ≡ checked k n m g → (within k n m g ≡ true) × (s ≡ shaped k n m g)
+  unfolding replyOf checked
+  checked-within s e = go (within k n m g) refl
+    where
+      go : (t : Bool) → within k n m g ≡ t → (within k n m g ≡ true) × (s ≡ shaped k n m g)
+      go true h = (h, ap (λ (r : Reply). shapeIn (r .values)) (rw h at e))
+      go false h = let none : _≡_ {A = ℕ} 0 1 = ap (λ (r : Reply). r .number) (rw h at e) in absurd (omega arith)
+
+  pub checked-outside : replyOf Outside ≡ checked k n m g → within k n m g ≡ false
+  unfolding replyOf checked
+  checked-outside e = go (within k n m g) refl
+    where
+      go : (t : Bool) → within k n m g ≡ t → within k n m g ≡ false
+      go true h = let none : _≡_ {A = ℕ} 1 0 = ap (λ (r : Reply). r .number) (rw h at e) in absurd (omega arith)
+      go false h = h

@@ -1,0 +1,91 @@
+// The head of a book: its shape and its clock, or why the call is refused.
+use model::Refusal;
+use shape::Checked;
+use shape::Shape;
+ghost use mathlib.Core.Path.{_≡_};
+ghost use mathlib.Core.List.{_++_};
+ghost use Prim.Native.Nat.{_≤_};
+ghost use lib.ListN.{length, drop};
+ghost use Rattle.model.specs.Words.{encodeHead};
+ghost use Rattle.summary.specs.Head.{Opens, Shaped, headWords, isBlank};
+
+// The clock goes no further.
+pub const MAX_CLOCK: u32 = 2000000000;
+
+// What the first words of a book tell.
+pub enum Opened {
+    Book { shape: Shape, clock: u32 },
+    Refused(Refusal),
+}
+
+// Whether the last three words of the head are zero.
+fn is_blank(book: &[u32]) -> bool
+    requires { ⌜ 8 ≤ length (now book) ⌝ }
+    ensures { λ r. ⌜ r ≡ isBlank (now (book .entry)) ⌝ }
+{
+    if book[5] != 0 {
+        return false;
+    }
+    if book[6] != 0 {
+        return false;
+    }
+    book[7] == 0
+}
+
+// A book of this shape: its clock and its length are looked at.
+fn with_shape(book: &[u32], shape: Shape) -> Opened
+    requires { ⌜ Shaped (now book) shape ⌝ }
+    ensures { λ r. ⌜ Opens (now (book .entry)) r ⌝ }
+{
+    let clock = book[4];
+    if MAX_CLOCK < clock {
+        return Opened::Refused(Refusal::Head);
+    }
+    if !is_blank(book) {
+        return Opened::Refused(Refusal::Head);
+    }
+    if book.len() != shape.book_len() {
+        return Opened::Refused(Refusal::Length);
+    }
+    Opened::Book { shape, clock }
+}
+
+// Words of any length and content.
+pub fn open(book: &[u32]) -> Opened
+    ensures { λ r. ⌜ Opens (now (book .entry)) r ⌝ }
+{
+    if book.len() < 8 {
+        return Opened::Refused(Refusal::Length);
+    }
+    match Shape::new(book[0], book[1], book[2], book[3]) {
+        Checked::Within(shape) => with_shape(book, shape),
+        Checked::Outside => Opened::Refused(Refusal::Head),
+    }
+}
+
+// Writes the words of a head; the blocks stay.
+fn store_head(book: &mut [u32], k: u32, n: u32, m: u32, g: u32, clock: u32)
+    requires { ⌜ 8 ≤ length (now book) ⌝ }
+    ensures { λ _. ⌜ now (book .exit) ≡ headWords k n m g clock ++ drop 8 (now (book .entry)) ⌝ }
+{
+    book[0] = k;
+    book[1] = n;
+    book[2] = m;
+    book[3] = g;
+    book[4] = clock;
+    book[5] = 0;
+    book[6] = 0;
+    book[7] = 0;
+}
+
+// Writes the head of a shape; the blocks stay.
+pub fn write_head(book: &mut [u32], shape: Shape, clock: u32)
+    requires { ⌜ 8 ≤ length (now book) ⌝ }
+    ensures { λ _. ⌜ now (book .exit) ≡ encodeHead shape clock ++ drop 8 (now (book .entry)) ⌝ }
+{
+    let k = shape.k as u32;
+    let n = shape.n as u32;
+    let m = shape.m as u32;
+    let g = shape.g as u32;
+    store_head(book, k, n, m, g, clock);
+}

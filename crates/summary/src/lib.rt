@@ -1,0 +1,2 @@
+// The calls on a whole book.
+mod head;

@@ -1,8 +1,8 @@
--- The definitions that the loops compute, one turn at a time. Assumes nothing.
-use mathlib.Core.Bool.{Bool, true, false, true≢false, and-assoc, _&&_, _||_}
+-- What the code goes by: the definitions that its loops compute, one turn at a time, and two of its tests in other words. Assumes nothing.
+use mathlib.Core.Bool.{Bool, true, true≢false, and-assoc, _&&_, _||_}
 use mathlib.Core.List.{List, [], _∷_}
-use mathlib.Core.Path.{_≡_, refl, sym, ap, _∙_}
-use Prim.Native.Nat.{ℕ, zero, suc, _+_, _-_, _/_, _^_, _≤_, _<_}
+use mathlib.Core.Path.{_≡_, refl, sym, ap}
+use Prim.Native.Nat.{ℕ, zero, suc, _+_, _-_, _/_, _^_, _<_}
 use native.Mathlib.Nat.{pow-suc}
 use native.Mathlib.Numerals.{add-one}
 use native.Mathlib.Omega.{arith}
@@ -18,6 +18,12 @@ use Rattle.model.specs.Sound.{zeros, weightOf, isPower, rising, chained, soundB
 pub zeros-step : (ws : List ℕ) (j : ℕ) → j < length ws → zeros (drop j ws) ≡ (eqb (getD ws j 0) 0 && zeros (drop (j + 1) ws))
 zeros-step ws j h = rw (drop-cons ws j 0, add-one)
 
+abbrev pub soundSingle : ℕ → ℕ → Bucket → Bool  -- what `rising` asks of its first bucket
+soundSingle k a b = leb a (b .offset) && (ltb (b .offset) (2 ^ k) && (eqb (b .width) 1 && leb 1 (b .weight)))
+
+pub rising-step : (k a : ℕ) (b : Bucket) (bs : List Bucket) → rising k a (b ∷ bs) ≡ (soundSingle k a b && rising k (b .offset + 1) bs)
+rising-step k a b bs = simp and-assoc
+
 -- ---- powers of two, from the largest down
 
 pub half-power : (j : ℕ) → 0 < j → 2 ^ j / 2 ≡ 2 ^ (j - 1)
@@ -28,7 +34,7 @@ pub isPower-step : (j x : ℕ) → 0 < j → isPower j x ≡ (eqb x (2 ^ j) || i
 isPower-step zero x h = absurd (omega arith)
 isPower-step (suc j) x h = let d : suc j - 1 ≡ j = omega arith in rw d
 
--- a power of two is not 0
+-- 0 is no power of two
 pub isPower-pos : (k x : ℕ) → isPower k x ≡ true → 0 < x
 isPower-pos k zero h = absurd (not-zero k h)
   where
@@ -37,15 +43,9 @@ isPower-pos k zero h = absurd (not-zero k h)
     not-zero (suc k) q = not-zero k (rw (ne-eqb 0 (2 ^ suc k) (λ z. omega (arith, pow-pos (suc k)))) at q)
 isPower-pos k (suc x) h = omega arith
 
--- ---- level 0
+-- ---- two tests in other words
 
-abbrev pub soundSingle : ℕ → ℕ → Bucket → Bool  -- what `rising` asks of its first bucket
-soundSingle k a b = leb a (b .offset) && (ltb (b .offset) (2 ^ k) && (eqb (b .width) 1 && leb 1 (b .weight)))
-
-pub rising-step : (k a : ℕ) (b : Bucket) (bs : List Bucket) → rising k a (b ∷ bs) ≡ (soundSingle k a b && rising k (b .offset + 1) bs)
-rising-step k a b bs = simp and-assoc
-
--- every offset is at least 0
+-- all offsets are at least 0, so the sum from 0 on is the whole weight
 pub sumFrom-zero : (bs : List Bucket) → sumFrom 0 bs ≡ weightOf bs
 sumFrom-zero [] = refl
 sumFrom-zero (b ∷ bs) = rw (leb·zero (b .offset)) (ap (λ (z : ℕ). b .weight + z) (sumFrom-zero bs))

@@ -73,7 +73,7 @@ pub fn find(level: &[u32], x: u32) -> usize
 fn counted(b: Slot, a: u32) -> u64
     ensures { λ r. ⌜ (r ≡ cond (leb a (b .offset)) (b .weight) 0) × (r < 2 ^ 32) ⌝ }
 {
-    if a <= b.offset { long(b.weight) } else { 0 }
+    if a <= b.offset { b.weight as u64 } else { 0 }
 }
 
 // The weights of the buckets whose offset is at least a.
@@ -111,7 +111,7 @@ fn implied(a: bool, b: bool) -> bool
     if a { b } else { true }
 }
 
-fn power(k: u8) -> u32
+pub fn power(k: u8) -> u32
     requires { ⌜ k ≤ 31 ⌝ }
     ensures { λ r. ⌜ r ≡ 2 ^ k ⌝ }
 {

@@ -1,35 +1,25 @@
-use mathlib.Core.Path.{_≡_, sym, _∙_}
+-- Level 0 asks for F below 2 ^ k and the rising offsets, and the other levels for a bucket and the chain.
 use Prim.Native.Nat.{_<_}
+use native.Mathlib.Omega.{arith}
+use borrow.Author.Needs.{needs}
 use borrow.Author.Tests.{le-leb, lt-leb, lt-ltb, le-ltb}
 use Rattle.laws.specs.LevelWords.{length-slots}
 use Rattle.scan.specs.Steps.{soundBuckets-upper}
-use native.Mathlib.Omega.{arith}
-use borrow.Author.Needs.{needs}
 use Rattle.scan.proofs.sound_buckets.Statement.{statement}
 use Rattle.scan.proofs.sound_buckets.Tie as tie
-use Rattle.scan.proofs.sound_buckets.Reads as reads
-use Rattle.scan.proofs.sound_buckets.Lts as lts
-use Rattle.scan.proofs.is_chained.Reads as is-chained-reads
-use Rattle.scan.proofs.is_rising.Reads as is-rising-reads
-use Rattle.scan.proofs.power.Reads as power-reads
 
--- src/lib.rt:205:12
 power-requires : tie.Need-power-requires
 power-requires c κs = search needs
 
--- src/lib.rt:205:24
 shared-slice-read-if2 : tie.Need-shared-slice-read-if2
 shared-slice-read-if2 c = search needs
 
--- src/lib.rt:206:13
 returns : tie.Need-returns
 returns c = simp (c .before .before .before .if1 .taken, le-ltb _ _ (rw (c .before .before .power .ensures) at (c .if2 .taken)))
 
--- src/lib.rt:208:9
 is-rising-requires : tie.Need-is-rising-requires
 is-rising-requires c κs = search needs
 
--- src/lib.rt:208:9
 returns-2 : tie.Need-returns-2
 returns-2 c =
     simp (
@@ -38,17 +28,14 @@ returns-2 c =
       c .is-rising .ensures,
     )
 
--- src/lib.rt:211:9
 returns-3 : tie.Need-returns-3
 returns-3 c =
     let upper : 0 < c .before .before .before .args .i = omega arith in
     simp (soundBuckets-upper, length-slots, lt-leb _ _ (c .if3 .taken))
 
--- src/lib.rt:213:5
 is-chained-requires : tie.Need-is-chained-requires
 is-chained-requires c κs = search needs
 
--- src/lib.rt:200:1
 returns-4 : tie.Need-returns-4
 returns-4 c =
     let upper : 0 < c .before .before .before .before .args .i = omega arith in

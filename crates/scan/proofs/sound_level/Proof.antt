@@ -1,25 +1,18 @@
-use mathlib.Core.Bool.{true}
+-- Each test is one factor of `soundLevel`: the first that fails makes it false, and after the others the last decides.
+use mathlib.Core.Bool.{Bool, true, _&&_}
 use mathlib.Core.List.{List}
 use mathlib.Core.Path.{_≡_, sym, _∙_}
 use Prim.Native.Nat.{ℕ, _+_, _*_}
 use lib.Dec.{leb, ltb, eqb}
 use lib.ListN.{getD, drop}
+use borrow.Author.Needs.{needs}
 use borrow.Author.Tests.{le-leb, lt-leb, not-true, not-false}
 use Rattle.model.specs.Level.{Bucket}
-use Rattle.model.specs.Words.{slots, decodeLevel}
 use Rattle.model.specs.Sound.{implies, zeros, weightOf, soundBuckets, soundLevel}
+use Rattle.model.specs.Words.{slots, decodeLevel}
 use Rattle.scan.specs.Steps.{sumFrom-zero}
-use native.Mathlib.Omega.{arith}
-use borrow.Author.Needs.{needs}
 use Rattle.scan.proofs.sound_level.Statement.{statement}
 use Rattle.scan.proofs.sound_level.Tie as tie
-use Rattle.scan.proofs.sound_level.Reads as reads
-use Rattle.scan.proofs.sound_level.Lts as lts
-use Rattle.scan.proofs.implied.Reads as implied-reads
-use Rattle.scan.proofs.is_zero.Reads as is-zero-reads
-use Rattle.scan.proofs.sound_buckets.Reads as sound-buckets-reads
-use Rattle.scan.proofs.sum_from.Reads as sum-from-reads
-use Rattle.scan.proofs.wide.Reads as wide-reads
 
 abbrev buckets : List ℕ → List Bucket
 buckets ws = slots ws 0 (getD ws 0 0)
@@ -35,12 +28,23 @@ unused c = sym (rw (c .before .before .before .before .wide .ensures) at (c .is-
 weight-is : (c : tie.After-sum-from) →
     c .sum-from .result ≡ weightOf (buckets (c .before .before .before .before .before .before .before .before .before .args .level .now))
 unfolding decodeLevel
-weight-is c = c .sum-from .ensures ∙ sumFrom-zero (buckets (c .before .before .before .before .before .before .before .before .before .args .level .now))
+weight-is c =
+    let ws = c .before .before .before .before .before .before .before .before .before .args .level .now in
+    c .sum-from .ensures ∙ sumFrom-zero (buckets ws)
 
-at-most : (c : tie.Else3) →
+-- past the first three tests, the others decide
+passed : (c : tie.Else3) →
     let a = c .before .before .before .before .before .before .before .before .before .before .args in
-    leb (weightOf (buckets (a .level .now))) (a .total) ≡ true
-at-most c = le-leb _ _ (rw (weight-is (c .before)) at (c .if3 .left))
+    let ws = a .level .now in
+    let weight = weightOf (buckets ws) in
+    (t : Bool) → (leb (getD ws 0 0) (a .s .n) && (zeros (drop (2 + 3 * getD ws 0 0) ws) && (leb weight (a .total) && t))) ≡ t
+passed c t =
+    let d = c .before .before in
+    simp (
+      few (d .before .before),
+      unused (d .before) ∙ not-false _ (d .if2 .left),
+      le-leb _ _ (rw (weight-is (c .before)) at (c .if3 .left)),
+    )
 
 whole : (c : tie.After-implied) →
     let a = c .before .before .before .before .before .before .before .before .before .before .before .args in
@@ -50,114 +54,88 @@ whole c = sym (rw (weight-is (c .before .before)) at (c .implied .ensures))
 full : (c : tie.After-implied2) →
     let a = c .before .before .before .before .before .before .before .before .before .before .before .before .before .args in
     implies (ltb 0 (getD (a .level .now) 1 0)) (eqb (getD (a .level .now) 0 0) (a .s .n)) ≡ c .implied2 .result
-full c = sym (rw (c .before .before .before .before .before .before .before .before .before .before .wide .ensures) at (c .implied2 .ensures))
+full c =
+    let w = c .before .before .before .before .before .before .before .before .before .before in
+    sym (rw (w .wide .ensures) at (c .implied2 .ensures))
 
-upper : (c : tie.After-sound-buckets) →
+last : (c : tie.After-sound-buckets) →
     let a = c .before .before .before .before .before .before .before .before .before .before .before .before .before .before .before .args in
     soundBuckets (a .s .k) (a .i) (getD (a .level .now) 1 0) (buckets (a .level .now)) ≡ c .sound-buckets .result
-upper c = sym (rw (c .before .before .before .before .before .before .before .before .before .before .before .before .wide .ensures) at (c .sound-buckets .ensures))
+last c =
+    let w = c .before .before .before .before .before .before .before .before .before .before .before .before in
+    sym (rw (w .wide .ensures) at (c .sound-buckets .ensures))
 
--- src/lib.rt:221:22
 shared-slice-read-wide : tie.Need-shared-slice-read-wide
 shared-slice-read-wide c = search needs
 
--- src/lib.rt:221:9
 wide-requires : tie.Need-wide-requires
 wide-requires c κs = search needs
 
--- src/lib.rt:222:17
 shared-slice-read-first : tie.Need-shared-slice-read-first
 shared-slice-read-first c = search needs
 
--- src/lib.rt:223:13
 cast-n : tie.Need-cast-n
 cast-n c = search needs
 
--- src/lib.rt:225:9
 returns : tie.Need-returns
 unfolding soundLevel
 returns c = simp (lt-leb _ _ (rw (c .before .before .before .wide .ensures) at (c .if1 .taken)))
 
--- src/lib.rt:227:28
 mul-is-zero : tie.Need-mul-is-zero
 mul-is-zero c = search needs
 
--- src/lib.rt:227:24
 add-is-zero : tie.Need-add-is-zero
 add-is-zero c = search needs
 
--- src/lib.rt:227:9
 is-zero-requires : tie.Need-is-zero-requires
 is-zero-requires c κs = search needs
 
--- src/lib.rt:228:9
 returns-2 : tie.Need-returns-2
 unfolding soundLevel
 returns-2 c = simp (few (c .before .before), unused (c .before) ∙ not-true _ (c .if2 .taken))
 
--- src/lib.rt:230:9
 sum-from-requires : tie.Need-sum-from-requires
 sum-from-requires c κs = search needs
 
--- src/lib.rt:232:9
 returns-3 : tie.Need-returns-3
 unfolding soundLevel
 returns-3 c =
     let d = c .before .before in
-    simp (few (d .before .before), unused (d .before) ∙ not-false _ (d .if2 .left), lt-leb _ _ (rw (weight-is (c .before)) at (c .if3 .taken)))
+    simp (
+      few (d .before .before),
+      unused (d .before) ∙ not-false _ (d .if2 .left),
+      lt-leb _ _ (rw (weight-is (c .before)) at (c .if3 .taken)),
+    )
 
--- src/lib.rt:234:9
 implied-requires : tie.Need-implied-requires
 implied-requires c κs = search needs
 
--- src/lib.rt:235:9
 returns-4 : tie.Need-returns-4
 unfolding soundLevel
-returns-4 c =
-    let d = c .before .before .before .before in
-    simp (
-      few (d .before .before),
-      unused (d .before) ∙ not-false _ (d .if2 .left),
-      at-most (c .before .before),
-      whole (c .before) ∙ not-true _ (c .if4 .taken),
-    )
+returns-4 c = simp (passed (c .before .before), whole (c .before) ∙ not-true _ (c .if4 .taken))
 
--- src/lib.rt:237:9
 implied-requires-2 : tie.Need-implied-requires-2
 implied-requires-2 c κs = search needs
 
--- src/lib.rt:238:9
 returns-5 : tie.Need-returns-5
 unfolding soundLevel
 returns-5 c =
-    let e = c .before .before in
-    let d = e .before .before .before .before in
-    simp (
-      few (d .before .before),
-      unused (d .before) ∙ not-false _ (d .if2 .left),
-      at-most (e .before .before),
-      whole (e .before) ∙ not-false _ (e .if4 .left),
-      full (c .before) ∙ not-true _ (c .if5 .taken),
-    )
+    let d = c .before .before in
+    simp (passed (d .before .before), whole (d .before) ∙ not-false _ (d .if4 .left), full (c .before) ∙ not-true _ (c .if5 .taken))
 
--- src/lib.rt:240:5
 sound-buckets-requires : tie.Need-sound-buckets-requires
 sound-buckets-requires c κs = search needs
 
--- src/lib.rt:217:1
 returns-6 : tie.Need-returns-6
 unfolding soundLevel
 returns-6 c =
-    let f = c .before in
-    let e = f .before .before in
-    let d = e .before .before .before .before in
+    let e = c .before in
+    let d = e .before .before in
     simp (
-      few (d .before .before),
-      unused (d .before) ∙ not-false _ (d .if2 .left),
-      at-most (e .before .before),
-      whole (e .before) ∙ not-false _ (e .if4 .left),
-      full (f .before) ∙ not-false _ (f .if5 .left),
-      upper c,
+      passed (d .before .before),
+      whole (d .before) ∙ not-false _ (d .if4 .left),
+      full (e .before) ∙ not-false _ (e .if5 .left),
+      last c,
     )
 
 pub sound-level-spec : {M : Type 1} → statement M

@@ -1,18 +1,14 @@
+-- Invariant: the sum so far and what the slots from j on add are the whole sum; j words are below j * 2 ^ 32.
 use mathlib.Core.Path.{_≡_}
 use Prim.Native.Nat.{_+_, _-_, _*_, _^_, _≤_}
+use native.Mathlib.Omega.{arith}
+use borrow.Author.Needs.{needs}
 use Rattle.model.specs.Block.{sumFrom}
 use Rattle.model.specs.Words.{slots, decodeLevel}
 use Rattle.laws.specs.LevelWords.{slots-none, slots-all}
 use Rattle.scan.specs.Slot.{slots-read}
-use native.Mathlib.Omega.{arith}
-use borrow.Author.Needs.{needs}
 use Rattle.scan.proofs.sum_from.Statement.{statement}
 use Rattle.scan.proofs.sum_from.Tie as tie
-use Rattle.scan.proofs.sum_from.Reads as reads
-use Rattle.scan.proofs.sum_from.Lts as lts
-use Rattle.scan.proofs.counted.Reads as counted-reads
-use Rattle.scan.proofs.slot_at.Reads as slot-at-reads
-use Rattle.scan.proofs.wide.Reads as wide-reads
 
 abbrev Inv-loop : tie.InvT-loop
 Inv-loop level a count sum₀ j₀ sum j =
@@ -21,54 +17,46 @@ Inv-loop level a count sum₀ j₀ sum j =
 abbrev μ-loop : tie.MeasureT-loop
 μ-loop level a count sum₀ j₀ sum j = count - j
 
--- src/lib.rt:84:22
 shared-slice-read-wide : tie.Need-shared-slice-read-wide Inv-loop μ-loop
 shared-slice-read-wide c = search needs
 
--- src/lib.rt:84:9
 wide-requires : tie.Need-wide-requires Inv-loop μ-loop
 wide-requires c κs = search needs
 
--- src/lib.rt:87:5
 loop-holds : tie.Need-loop-holds Inv-loop μ-loop
 unfolding decodeLevel
 loop-holds c =
     (omega arith, omega arith, rw (c .wide .ensures, slots-all (c .before .before .before .args .level .now) _) (omega arith))
 
--- src/lib.rt:88:24
 slot-at-requires : tie.Need-slot-at-requires Inv-loop μ-loop
 slot-at-requires c κs = search needs
 
--- src/lib.rt:88:16
 counted-requires : tie.Need-counted-requires Inv-loop μ-loop
 counted-requires c κs = search needs
 
--- src/lib.rt:88:9
 add-sum : tie.Need-add-sum Inv-loop μ-loop
 add-sum c = search needs
 
--- src/lib.rt:89:9
 add-j : tie.Need-add-j Inv-loop μ-loop
 add-j c = search needs
 
--- src/lib.rt:87:5
 loop-less : tie.Need-loop-less Inv-loop μ-loop
 loop-less c = search needs
 
--- src/lib.rt:87:5
 loop-again : tie.Need-loop-again Inv-loop μ-loop
 loop-again c =
     let r = c .before in
     let l = r .before .before in
     let ws = l .before .before .before .before .args .level .now in
-    let read = slots-read ws (l .loop .j) (l .before .wide .result) (r .slot-at .result) (r .slot-at .ensures) (r .before .loop-test .taken) in
+    let count = l .before .wide .result in
+    let read = slots-read ws (l .loop .j) count (r .slot-at .result) (r .slot-at .ensures) (r .before .loop-test .taken) in
     omega (arith, rw read at (l .loop .inv .2))
 
--- src/lib.rt:80:1
 returns : tie.Need-returns Inv-loop μ-loop
 returns c =
     let l = c .before in
-    omega (arith, rw (slots-none (l .before .before .before .before .args .level .now) (l .loop .j) (l .before .wide .result) (c .loop-test .left)) at (l .loop .inv .2))
+    let ws = l .before .before .before .before .args .level .now in
+    omega (arith, rw (slots-none ws (l .loop .j) (l .before .wide .result) (c .loop-test .left)) at (l .loop .inv .2))
 
 pub sum-from-spec : {M : Type 1} → statement M
 sum-from-spec =

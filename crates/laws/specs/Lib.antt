@@ -21,3 +21,8 @@ pub mod Proper
 pub mod BlockKept
 pub mod Refusals
 pub mod Sweep
+pub mod Halves
+pub mod Loops
+pub mod Round
+pub mod Delivery
+pub mod Splits

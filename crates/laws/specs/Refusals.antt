@@ -1,8 +1,8 @@
 -- The first refusal that holds, what a call settles by it, and what an accepted call tells of its view. Assumes nothing.
-use mathlib.Core.Bool.{Bool, true, false, cond, not, _||_}
+use mathlib.Core.Bool.{Bool, true, false, true≢false, cond, not, _||_}
 use mathlib.Core.Path.{_≡_, refl, sym, _∙_}
 use mathlib.Core.List.{List, [], _∷_, _++_}
-use Prim.Native.Nat.{ℕ, _+_, _^_, _≤_, _<_}
+use Prim.Native.Nat.{ℕ, zero, suc, _+_, _^_, _≤_, _<_}
 use native.Mathlib.Omega.{arith}
 use lib.Dec.{ltb, eqb}
 use borrow.Author.Tests.{eq-eqb, ne-eqb, not-false, ltb-true, ltb-false, eqb-true}
@@ -78,10 +78,15 @@ pub record AcceptedDelivery (v : View) (grade stamp volume : ℕ) : Type 0 where
   pub head : v .headSound ≡ true
   pub size : v .lent ≡ bookWords (v .shape)
   pub inside : grade < v .shape .g
+  pub some : 0 < volume
   pub low : stamp ≤ v .clock
   pub high : v .clock ≤ stamp + 2 ^ v .shape .k
   pub sound : v .blockSound grade ≡ true
   pub room : v .total grade stamp + volume ≤ 2 ^ v .shape .m
+
+not-none : (volume : ℕ) (b : Bool) → (eqb volume 0 || b) ≡ false → 0 < volume
+not-none zero b h = absurd (true≢false h)
+not-none (suc v) b h = omega arith
 
 module _ (v : View) (grade stamp volume : ℕ) where
   -- the last refusals of a delivery: late, unsound, full
@@ -89,26 +94,27 @@ module _ (v : View) (grade stamp volume : ℕ) where
   lastOf = cond (late (v .shape) (v .clock) stamp) 9 (cond (not (v .blockSound grade)) 11 (cond (ltb (2 ^ v .shape .m) (v .total grade stamp + volume)) 12 0))
 
   reached : (z : ℕ) → (2 ≡ z → ⊥) → (7 ≡ z → ⊥) → (3 ≡ z → ⊥) → (4 ≡ z → ⊥) → (8 ≡ z → ⊥) → firstOf (refusals v (Delivery grade stamp volume)) ≡ z
-      → (v .headSound ≡ true) × (v .lent ≡ bookWords (v .shape)) × (grade < v .shape .g) × (stamp ≤ v .clock) × (lastOf ≡ z)
+      → (v .headSound ≡ true) × (v .lent ≡ bookWords (v .shape)) × (grade < v .shape .g) × (0 < volume) × (stamp ≤ v .clock) × (lastOf ≡ z)
   unfolding refusals
   reached z two seven three four eight h =
       let start = opened-facts v two seven h in
       let inside = further (not (ltb grade (v .shape .g))) 3 three (start .2) in
       let amount = further (eqb volume 0 || ltb 65535 volume) 4 four (inside .1) in
       let low = further (ltb (v .clock) stamp) 8 eight (amount .1) in
-      (start .0, start .1, ltb-true grade (v .shape .g) (not-false _ (inside .0)), ltb-false (v .clock) stamp (low .0), low .1)
+      (start .0, start .1, ltb-true grade (v .shape .g) (not-false _ (inside .0)), not-none volume (ltb 65535 volume) (amount .0), ltb-false (v .clock) stamp (low .0), low .1)
 
   pub accepted-delivery : firstOf (refusals v (Delivery grade stamp volume)) ≡ 0 → AcceptedDelivery v grade stamp volume
   accepted-delivery h =
       let there = reached 0 (λ e. omega arith) (λ e. omega arith) (λ e. omega arith) (λ e. omega arith) (λ e. omega arith) h in
-      let high = further (late (v .shape) (v .clock) stamp) 9 (λ e. omega arith) (there .4) in
+      let high = further (late (v .shape) (v .clock) stamp) 9 (λ e. omega arith) (there .5) in
       let sound = further (not (v .blockSound grade)) 11 (λ e. omega arith) (high .1) in
       let room = further (ltb (2 ^ v .shape .m) (v .total grade stamp + volume)) 12 {y = 0} (λ e. omega arith) (sound .1) in
       record {
         head = there .0;
         size = there .1;
         inside = there .2;
-        low = there .3;
+        some = there .3;
+        low = there .4;
         high = ltb-false (stamp + 2 ^ v .shape .k) (v .clock) (high .0);
         sound = not-false _ (sound .0);
         room = ltb-false (2 ^ v .shape .m) (v .total grade stamp + volume) (room .0);
@@ -124,7 +130,7 @@ module _ (v : View) (grade stamp volume : ℕ) where
   pub late-delivery : firstOf (refusals v (Delivery grade stamp volume)) ≡ 9 → late (v .shape) (v .clock) stamp ≡ true
   late-delivery h =
       ended (late (v .shape) (v .clock) stamp) (not (v .blockSound grade)) (ltb (2 ^ v .shape .m) (v .total grade stamp + volume))
-      (reached 9 (λ e. omega arith) (λ e. omega arith) (λ e. omega arith) (λ e. omega arith) (λ e. omega arith) h .4)
+      (reached 9 (λ e. omega arith) (λ e. omega arith) (λ e. omega arith) (λ e. omega arith) (λ e. omega arith) h .5)
 
 pub record AcceptedQuery (v : View) (grade window : ℕ) : Type 0 where
   pub head : v .headSound ≡ true

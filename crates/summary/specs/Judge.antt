@@ -3,7 +3,7 @@
 use mathlib.Core.Bool.{Bool, true, false, cond, not, _||_}
 use mathlib.Core.Path.{_≡_, refl, sym, ap, _∙_}
 use mathlib.Core.List.{List, [], _∷_, _++_}
-use Prim.Native.Nat.{ℕ, _+_, _^_, _≤_}
+use Prim.Native.Nat.{ℕ, _+_, _%_, _^_, _≤_, _<_}
 use native.Mathlib.Omega.{arith}
 use lib.Dec.{ltb, eqb}
 use lib.ListN.{length, drop}
@@ -19,13 +19,15 @@ use Rattle.model.specs.Words.{shapeOf, clockOf, blockPart, decodeBlock}
 use Rattle.model.specs.Sound.{allFrom, maxClock, soundHead, soundBlock}
 use Rattle.model.specs.Calls.{View, firstOf, opened, refusals, bookView}
 use Rattle.model.specs.Reply.{numberOf}
-use Rattle.laws.specs.Proper.{Proper}
+use Rattle.laws.specs.Proper.{Proper, Whole}
+use Rattle.laws.specs.Halves.{total-decode, whole-total}
 use Rattle.laws.specs.Refusals.{opened-accepted}
 use Rattle.model.specs.Claim.{ByCall}
-use Rattle.laws.specs.BookWords.{soundHead-limits, soundHead-clock}
+use Rattle.laws.specs.BookWords.{soundHead-limits, soundHead-clock, length-blockPart}
 use Rattle.summary.specs.declared.head.Opened.{Opened}
 use Rattle.summary.specs.declared.head.Opened.the-variants.{Book, Refused}
 use Rattle.summary.specs.Head.{openedNumber}
+use Rattle.summary.specs.Sweeps.{InBook}
 
 abbrev pub firstRefusal : List ℕ → Call → ℕ
 firstRefusal ws call = firstOf (refusals (bookView ws) call)
@@ -41,7 +43,7 @@ pub record Open (ws : List ℕ) (s : Shape) (clock : ℕ) : Type 0 where
   pub now : clock ≡ clockOf ws
 
 -- no refusal has the number 0
-numberOf-pos : (r : Refusal) → numberOf r ≡ 0 → ⊥
+pub numberOf-pos : (r : Refusal) → numberOf r ≡ 0 → ⊥
 numberOf-pos NoShape e = omega arith
 numberOf-pos Length e = omega arith
 numberOf-pos Grade e = omega arith
@@ -74,6 +76,15 @@ module _ (v : View) (rest : List (Bool × ℕ)) where
       go true b c h = absurd (omega arith)
       go false true c h = absurd (omega arith)
       go false false true h = absurd (omega arith)
+      go false false false h = refl
+
+  starts : firstOf (opened v ++ rest) ≡ 0 → firstOf (opened v) ≡ 0
+  starts = go (ltb (v .lent) 8) (not (v .headSound)) (not (eqb (v .lent) (bookWords (v .shape))))
+    where
+      go : (a b c : Bool) → cond a 2 (cond b 7 (cond c 2 (firstOf rest))) ≡ 0 → _≡_ {A = ℕ} (cond a 2 (cond b 7 (cond c 2 0))) 0
+      go true b c h = h
+      go false true c h = h
+      go false false true h = h
       go false false false h = refl
 
 -- what the refusals see of an open book
@@ -134,3 +145,45 @@ module _ (ws : List ℕ) (s : Shape) (clock : ℕ) (o : Open ws s clock) where
   rest-judges call b =
       ap firstOf (begins (bookView ws) call b) ∙ passes (bookView ws) (restOf (bookView ws) call) (o .number)
       ∙ ap (λ (v : View). firstOf (restOf v call)) view-is
+
+  -- ---- the refusals of each call that are left, by their tests
+
+  pub clock-judges : (to : ℕ) → firstRefusal ws (Clock to)
+      ≡ cond (ltb maxClock to) 6 (cond (ltb to clock) 10 (cond (not (allFrom (λ grade. soundBlock s (blockPart s grade ws)) 0 (s .g))) 11 0))
+  unfolding refusals
+  clock-judges to = rest-judges (Clock to) tt
+
+  pub delivery-judges : (grade stamp volume : ℕ) → firstRefusal ws (Delivery grade stamp volume)
+      ≡ cond (not (ltb grade (s .g))) 3 (cond (eqb volume 0 || ltb 65535 volume) 4 (cond (ltb clock stamp) 8 (cond (late s clock stamp) 9
+      (cond (not (soundBlock s (blockPart s grade ws))) 11
+      (cond (ltb (2 ^ s .m) (halfOf (interval s stamp) (decodeBlock s (blockPart s grade ws)) .total + volume)) 12 0)))))
+  unfolding refusals
+  delivery-judges grade stamp volume = rest-judges (Delivery grade stamp volume) tt
+
+  pub query-judges : (grade window : ℕ) → firstRefusal ws (Query grade window)
+      ≡ cond (not (ltb grade (s .g))) 3 (cond (ltb (2 ^ s .k) window) 5 (cond (not (soundBlock s (blockPart s grade ws))) 11 0))
+  unfolding refusals
+  query-judges grade window = rest-judges (Query grade window) tt
+
+  -- ---- a grade of an open book
+
+  module _ (grade : ℕ) (h : grade < s .g) where
+    pub open-inside : InBook s grade ws
+    open-inside = record { proper = open-proper; size = open-size; inside = h }
+
+    module _ (sound : soundBlock s (blockPart s grade ws) ≡ true) where
+      pub open-whole : Whole s (blockPart s grade ws)
+      open-whole = record { proper = open-proper; size = length-blockPart s grade h ws open-size; sound = sound }
+
+      -- what a half holds is at most 2^M
+      pub open-total : (j : ℕ) → halfOf j (decodeBlock s (blockPart s grade ws)) .total ≤ 2 ^ s .m
+      open-total j = rw (total-decode s j (blockPart s grade ws)) (whole-total s (blockPart s grade ws) open-whole (j % 2) (omega arith))
+
+-- an accepted call found the book open
+pub judges-open : (ws : List ℕ) (s : Shape) (clock : ℕ) (call : Call) → Begins call → Judges ws call (Book s clock) → Open ws s clock
+unfolding openedNumber
+judges-open ws s clock call b j = record {
+  number = starts (bookView ws) (restOf (bookView ws) call) (sym (ap firstOf (begins (bookView ws) call b)) ∙ j .0);
+  same = j .1;
+  now = j .2;
+}

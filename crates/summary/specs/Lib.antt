@@ -1,3 +1,5 @@
 pub mod Head
-pub mod Judge
 pub mod Sweeps
+pub mod Judge
+pub mod Fill
+pub mod Outcome

@@ -12,6 +12,7 @@ use Rattle.model.specs.Words.{blockPart, decodeBlock, encodeBlock}
 use Rattle.model.specs.Sound.{soundBlock}
 use Rattle.laws.specs.Proper.{Proper}
 use Rattle.laws.specs.BlockWords.{soundBlock-decode}
+use Rattle.laws.specs.BookWords.{blockStart-fits, length-blockPart}
 use Rattle.laws.specs.BlockKept.{empty-half, advance-both, both-size}
 
 -- a grade of a book of this shape
@@ -41,3 +42,7 @@ pub advanced-size : (s : Shape) (old new : ℕ) (ws : List ℕ) → AllSound s w
 advanced-size s old new ws a grade h =
     both-size s (a .proper) (advance s old new (decodeBlock s (blockPart s grade ws)))
     (advance-both s (a .proper) old new (decodeBlock s (blockPart s grade ws)) (soundBlock-decode s (blockPart s grade ws) (a .sound grade h)))
+
+-- the block of a grade lies within its book
+pub block-within : {s : Shape} {grade : ℕ} {ws : List ℕ} → InBook s grade ws → blockStart s grade + blockWords s ≤ length ws
+block-within {s} {grade} b = omega (arith, b .size, blockStart-fits s grade (b .inside))

@@ -1,0 +1,75 @@
+-- The three branches are the three cases of what the clock empties.
+use mathlib.Core.Path.{_≡_, sym, _∙_}
+use Prim.Native.Nat.{_+_}
+use native.Mathlib.Omega.{arith}
+use borrow.Author.Needs.{needs}
+use Rattle.model.specs.Block.{interval}
+use Rattle.model.specs.Words.{decodeBlock}
+use Rattle.laws.specs.BlockWords.{encode-decodeBlock}
+use Rattle.laws.specs.Halves.{advance-same, advance-far, emptied-next}
+use Rattle.block.specs.Steps.{interval-small}
+use Rattle.block.proofs.advance.Statement.{statement}
+use Rattle.block.proofs.advance.Tie as tie
+
+interval-requires : tie.Need-interval-requires
+interval-requires c κs = search needs
+
+interval-requires-2 : tie.Need-interval-requires-2
+interval-requires-2 c κs = search needs
+
+returns : tie.Need-returns
+returns c =
+    let d = c .before .before .before .before in
+    let a = d .args in
+    let b = decodeBlock (a .s) (a .block .now) in
+    let same : interval (a .s) (a .new) ≡ interval (a .s) (a .old) = cc in
+    rw (advance-same (a .s) (a .old) (a .new) b same) (sym (encode-decodeBlock (a .s) (a .block .now) (d .pre .sound) (d .pre .size)))
+
+add-if2 : tie.Need-add-if2
+add-if2 c = let d = c .before .before .before .before in omega (arith, interval-small (d .args .s) (d .args .old) (omega arith) (omega arith))
+
+cast-clear-half : tie.Need-cast-clear-half
+cast-clear-half c = search needs
+
+clear-half-requires : tie.Need-clear-half-requires
+clear-half-requires c κs = search needs
+
+same-length : tie.Need-same-length
+same-length c = search needs
+
+returns-2 : tie.Need-returns-2
+returns-2 c =
+    let n = c .before .before .before .before .before .before in
+    let d = n .before .before .before in
+    let a = d .args in
+    let next : interval (a .s) (a .new) ≡ interval (a .s) (a .old) + 1 = omega arith in
+    c .before .before .clear-half .ensures ∙ rw (n .interval2 .ensures) (emptied-next (a .s) (a .block .now) (d .pre) (a .old) (a .new) next)
+
+clear-requires : tie.Need-clear-requires
+clear-requires c κs = search needs
+
+same-length-2 : tie.Need-same-length-2
+same-length-2 c = search needs
+
+returns-3 : tie.Need-returns-3
+returns-3 c =
+    let e = c .before .before .before .before in
+    let d = e .before .before .before .before .before in
+    let a = d .args in
+    rw (advance-far (a .s) (a .old) (a .new) (decodeBlock (a .s) (a .block .now)) (λ q. omega arith) (λ q. omega arith)) (c .before .before .clear .ensures)
+
+pub advance-spec : {M : Type 1} → statement M
+advance-spec =
+    tie.close
+    (tie.spec
+    interval-requires
+    interval-requires-2
+    returns
+    add-if2
+    cast-clear-half
+    clear-half-requires
+    same-length
+    returns-2
+    clear-requires
+    same-length-2
+    returns-3)

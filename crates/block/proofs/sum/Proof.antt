@@ -1,0 +1,99 @@
+-- The sum from the serving level, and the current half's total where the window opens in another interval.
+use mathlib.Core.Path.{_≡_, sym, _∙_}
+use Prim.Native.Nat.{_%_, _^_, _≤_}
+use native.Mathlib.Omega.{arith}
+use borrow.Author.Tests.{eq-eqb, ne-eqb}
+use borrow.Author.Needs.{needs}
+use Rattle.model.specs.Block.{interval, offsetOf, sumFrom, serving}
+use Rattle.model.specs.Words.{decodeHalf}
+use Rattle.laws.specs.BlockWords.{blockWords-halves, length-levelPart}
+use Rattle.block.specs.Steps.{count-few, total-small, sum-small, answer-decode}
+use Rattle.block.proofs.sum.Statement.{statement}
+use Rattle.block.proofs.sum.Tie as tie
+
+-- the level's sum is that of the definition
+sum-is : (c : tie.After-sum-from) →
+    let a = c .before .before .before .before .before .before .before .args in
+    let x = offsetOf (a .s) (a .start) in
+    c .sum-from .result ≡ sumFrom x (serving x (decodeHalf (a .s) (interval (a .s) (a .start) % 2) (a .block .now) .levels) .buckets)
+sum-is c =
+    let f = c .before .before in
+    rw (← f .before .before .before .interval .ensures, ← f .before .offset .ensures, ← f .finest .ensures .1, ← c .before .level-at .ensures) (c .sum-from .ensures)
+
+sum-low : (c : tie.After-sum-from) → c .sum-from .result ≤ 2 ^ 24
+sum-low c =
+    let f = c .before .before in
+    let d = f .before .before .before .before .before in
+    let parity = f .before .before .before .interval .result % 2 in
+    rw (c .sum-from .ensures, c .before .level-at .ensures)
+    (sum-small (d .args .s) (d .args .block .now) (d .pre) parity (omega arith) (f .finest .result) (f .finest .ensures .0) (f .before .offset .result))
+
+interval-requires : tie.Need-interval-requires
+interval-requires c κs = search needs
+
+interval-requires-2 : tie.Need-interval-requires-2
+interval-requires-2 c κs = search needs
+
+offset-requires : tie.Need-offset-requires
+offset-requires c κs = search needs
+
+cast-parity : tie.Need-cast-parity
+cast-parity c = search needs
+
+finest-requires : tie.Need-finest-requires
+finest-requires c κs = search needs
+
+level-at-requires : tie.Need-level-at-requires
+level-at-requires c κs = search needs
+
+sum-from-requires : tie.Need-sum-from-requires
+sum-from-requires c κs =
+    let d = c .before .before .before .before .before .before in
+    let a = d .args in
+    let parity = c .before .before .before .before .interval .result % 2 in
+    let i = c .before .finest .result in
+    let low = c .before .finest .ensures .0 in
+    let half : parity ≤ 1 = omega arith in
+    let size = length-levelPart (a .s) parity i (a .block .now) half low (d .pre .size) in
+    let few = count-few (a .s) (a .block .now) (d .pre) parity half i low in
+    rw (c .level-at .ensures) (omega arith, omega arith)
+
+returns : tie.Need-returns
+returns c =
+    let f = c .before .before .before in
+    let a = f .before .before .before .before .before .args in
+    let same = sym (f .before .before .before .interval .ensures) ∙ c .if1 .taken ∙ f .before .before .interval2 .ensures in
+    rw (answer-decode (a .s) (a .clock) (a .start) (a .block .now), eq-eqb _ _ same) (sum-is (c .before))
+
+total-requires : tie.Need-total-requires
+total-requires c κs = let d = c .before .before .before .before .before .before .before .before in omega (arith, blockWords-halves (d .args .s), d .pre .size)
+
+add-result : tie.Need-add-result
+add-result c =
+    let d = c .before .before .before .before .before .before .before .before .before in
+    let small : c .total .result ≤ 2 ^ 24 = rw (c .total .ensures) (total-small (d .args .s) (d .args .block .now) (d .pre) _ (omega arith)) in
+    omega (arith, sum-low (c .before .before))
+
+returns-2 : tie.Need-returns-2
+returns-2 c =
+    let f = c .before .before .before .before in
+    let i = f .before .before in
+    let a = i .before .before .before .args in
+    let apart : (interval (a .s) (a .start) ≡ interval (a .s) (a .clock)) → ⊥ = λ q. c .before .if1 .left (i .before .interval .ensures ∙ q ∙ sym (i .interval2 .ensures)) in
+    rw (answer-decode (a .s) (a .clock) (a .start) (a .block .now), ne-eqb _ _ apart, ← sum-is (c .before .before), ← i .interval2 .ensures, ← c .total .ensures)
+
+pub sum-spec : {M : Type 1} → statement M
+sum-spec =
+    tie.close
+    (tie.spec
+    interval-requires
+    interval-requires-2
+    offset-requires
+    cast-parity
+    finest-requires
+    level-at-requires
+    sum-from-requires
+    returns
+    total-requires
+    add-result
+    returns-2)

@@ -1,0 +1,58 @@
+-- Below F nothing changes; else the slot found is the one that level 0 or the recursion asks for.
+use native.Mathlib.Omega.{arith}
+use borrow.Author.Needs.{needs}
+use Rattle.insert.specs.Entry.{few, below, found, found-ready}
+use Rattle.insert.proofs.insert.Statement.{statement}
+use Rattle.insert.proofs.insert.Tie as tie
+
+slice-read-if1 : tie.Need-slice-read-if1
+slice-read-if1 c = search needs
+
+returns : tie.Need-returns
+returns c = below (c .before .before .before .pre) (c .if1 .taken)
+
+insert-single-requires : tie.Need-insert-single-requires
+insert-single-requires c κs =
+    let s = c .before .before .before .before .before in
+    (rw (c .before .if2 .taken) at (s .pre), c .before .before .if1 .left)
+
+same-length : tie.Need-same-length
+same-length c = search needs
+
+returns-2 : tie.Need-returns-2
+returns-2 c = rw (c .before .before .before .before .if2 .taken) (c .before .before .insert-single .ensures)
+
+find-requires : tie.Need-find-requires
+find-requires c κs =
+    let o = c .before .before .before .before .before .pre in
+    omega (arith, few o, o .size)
+
+cast-pour : tie.Need-cast-pour
+cast-pour c = search needs
+
+pour-requires : tie.Need-pour-requires
+pour-requires c κs =
+    let d = c .before .before in
+    let b = d .before .before .before in
+    found-ready (found (b .before .before .before .pre) (b .if1 .left) (d .find .ensures)) (omega (arith, d .before .before .if2 .left))
+
+same-length-2 : tie.Need-same-length-2
+same-length-2 c = search needs
+
+returns-3 : tie.Need-returns-3
+returns-3 c = search needs
+
+pub insert-spec : {M : Type 1} → statement M
+insert-spec =
+    tie.close
+    (tie.spec
+    slice-read-if1
+    returns
+    insert-single-requires
+    same-length
+    returns-2
+    find-requires
+    cast-pour
+    pour-requires
+    same-length-2
+    returns-3)

@@ -1,0 +1,12 @@
+-- The state of a line before its first byte is the definition's own.
+use mathlib.Core.Path.{refl}
+use Rattle.lines.specs.Machine.{started}
+use Rattle.lines.proofs.Line.start.Statement.{statement}
+use Rattle.lines.proofs.Line.start.Tie as tie
+
+returns : tie.Need-returns
+unfolding started
+returns c = refl
+
+pub start-spec : {M : Type 1} → statement M
+start-spec = tie.close (tie.spec returns)

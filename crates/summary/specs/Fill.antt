@@ -1,0 +1,46 @@
+-- What a delivery into a block asks, and what each level is then asked. Rests on the delivery as writes of levels.
+use mathlib.Core.Path.{_≡_, sym, ap, _∙_}
+use mathlib.Core.List.{List}
+use Prim.Native.Nat.{ℕ, suc, _+_, _%_, _^_, _≤_, _<_}
+use native.Mathlib.Omega.{arith}
+use lib.ListN.{length, getD}
+use Rattle.shape.specs.declared.Shape.{Shape}
+use Rattle.model.specs.Level.{insert}
+use Rattle.model.specs.Block.{interval, offsetOf}
+use Rattle.model.specs.Words.{levelPart, decodeLevel, encodeLevel}
+use Rattle.laws.specs.BlockWrites.{withLevel}
+use Rattle.laws.specs.Proper.{Open, Whole}
+use Rattle.laws.specs.Delivery.{delivering, length-delivering, levelPart-delivering, level-open}
+use Rattle.block.specs.Steps.{LevelIn}
+
+-- a sound block whose half for the stamp has room for the volume
+pub record Takes (s : Shape) (stamp v : ℕ) (ws : List ℕ) : Type 0 where
+  pub whole : Whole s ws
+  pub some : 0 < v
+  pub room : getD ws (interval s stamp % 2) 0 + v ≤ 2 ^ s .m
+
+-- with the parity and the offset of the stamp at hand
+pub record Fills (s : Shape) (stamp parity x v : ℕ) (ws : List ℕ) : Type 0 where
+  pub takes : Takes s stamp v ws
+  pub half : parity ≡ interval s stamp % 2
+  pub place : x ≡ offsetOf s stamp
+
+module _ (s : Shape) (stamp parity x v : ℕ) (ws : List ℕ) (f : Fills s stamp parity x v ws) (i : ℕ) (low : i ≤ s .last) where
+  abbrev t : Takes s stamp v ws
+  t = f .takes
+
+  -- level i is in its place and can take the volume, once the levels below it have
+  pub level-in : LevelIn s parity i (delivering s stamp v ws i)
+  level-in = record {
+    sized = record { proper = t .whole .proper; size = length-delivering s stamp v ws (t .whole) i (omega arith) };
+    half = omega (arith, f .half);
+    index = low;
+  }
+
+  pub level-takes : Open s i x v (levelPart s parity i (delivering s stamp v ws i))
+  level-takes = rw (f .half, f .place, levelPart-delivering s stamp v ws (t .whole) i low) (level-open s stamp v ws (t .whole) (t .some) (t .room) i low)
+
+  -- after which the levels up to i have
+  pub level-filled : withLevel s parity i (encodeLevel (s .n) (insert (s .n) i x v (decodeLevel (levelPart s parity i (delivering s stamp v ws i))))) (delivering s stamp v ws i)
+      ≡ delivering s stamp v ws (suc i)
+  level-filled = rw (f .half, f .place, levelPart-delivering s stamp v ws (t .whole) i low)

@@ -1,0 +1,17 @@
+//! Comparison by running: random scripts of the bench protocol (document 01, "The bench program"),
+//! each answered by a program and by the reference, compared line by line.
+
+#![forbid(unsafe_code)]
+#![warn(missing_docs)]
+
+pub mod calls;
+pub mod difference;
+pub mod hostile;
+pub mod options;
+pub mod pace;
+pub mod plan;
+pub mod program;
+pub mod run;
+pub mod script;
+pub mod shapes;
+pub mod tally;

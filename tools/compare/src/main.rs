@@ -1,0 +1,60 @@
+//! Compares a bench program with the reference on random scripts.
+
+use std::io;
+use std::path::PathBuf;
+use std::process::{self, ExitCode};
+use std::{env, fs};
+
+use compare::options::{Options, USAGE};
+use compare::program::program_output;
+use compare::run::{reference_output, run, Failure, Summary};
+
+const USAGE_ERROR: u8 = 2;
+
+fn main() -> ExitCode {
+    let options = match Options::parse(env::args_os().skip(1)) {
+        Ok(options) => options,
+        Err(trouble) => {
+            eprintln!("{trouble}\n\n{USAGE}");
+            return ExitCode::from(USAGE_ERROR);
+        }
+    };
+    let program = |script: &[u8]| program_output(&options.program, script);
+    match run(options.plan(), reference_output, program) {
+        Ok(summary) => report_summary(&options, &summary),
+        Err(failure) => report_failure(&options, &failure),
+    }
+}
+
+fn report_summary(options: &Options, summary: &Summary) -> ExitCode {
+    let (seed, scripts, tally) = (options.seed, summary.scripts, &summary.tally);
+    let lines = tally.lines();
+    println!("seed {seed}: {scripts} scripts, {lines} lines, all equal; {tally}");
+    let faults = tally.faults();
+    for fault in &faults {
+        eprintln!("{fault}");
+    }
+    if faults.is_empty() {
+        ExitCode::SUCCESS
+    } else {
+        ExitCode::FAILURE
+    }
+}
+
+fn report_failure(options: &Options, failure: &Failure) -> ExitCode {
+    let (seed, number) = (options.seed, failure.number);
+    eprintln!("seed {seed}, script {number}, {}", failure.difference);
+    match keep(options, failure) {
+        Ok(path) => eprintln!("script in: {}", path.display()),
+        Err(error) => eprintln!("the script could not be kept: {error}"),
+    }
+    ExitCode::FAILURE
+}
+
+/// Writes the script to a file of its own, also where several runs fail at once.
+fn keep(options: &Options, failure: &Failure) -> io::Result<PathBuf> {
+    let (seed, number, process) = (options.seed, failure.number, process::id());
+    let path = env::temp_dir().join(format!("compare-{seed}-{number}-{process}.txt"));
+    fs::write(&path, &failure.script)?;
+    Ok(path)
+}

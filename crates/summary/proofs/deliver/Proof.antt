@@ -1,3 +1,4 @@
+-- The block of the grade alone is handed on, and comes back with the delivery.
 use native.Mathlib.Omega.{arith}
 use borrow.Author.Needs.{needs}
 use borrow.Rule.Slice.PartMut.{post-is}
@@ -7,58 +8,43 @@ use Rattle.summary.specs.Sweeps.{block-within}
 use Rattle.summary.specs.Outcome.{delivery-inside, delivery-takes, delivered-outcome}
 use Rattle.summary.proofs.deliver.Statement.{statement}
 use Rattle.summary.proofs.deliver.Tie as tie
-use Rattle.summary.proofs.deliver.Reads as reads
-use Rattle.summary.proofs.deliver.Lts as lts
-use Rattle.shape.proofs.Shape.block_len.Reads as block-len-reads
-use Rattle.shape.proofs.Shape.block_start.Reads as block-start-reads
-use Rattle.summary.proofs.fill.deliver_block.Reads as deliver-block-reads
 
--- src/lib.rt:74:9
 block-start-requires : tie.Need-block-start-requires
 block-start-requires c κs = search needs
 
--- src/lib.rt:75:17
 block-len-requires : tie.Need-block-len-requires
 block-len-requires c κs = search needs
 
--- src/lib.rt:75:13
 add-e : tie.Need-add-e
 add-e c =
     let d = c .before .before .before in
     omega (arith, block-within (delivery-inside (d .args .book .now) (d .args .shape) (d .args .grade) (d .args .stamp) (d .args .volume) (d .pre .0) (d .pre .1)))
 
--- src/lib.rt:76:19
 mul-deliver-block : tie.Need-mul-deliver-block
 mul-deliver-block c =
     let d = c .before .before .before in
     omega (arith, block-within (delivery-inside (d .args .book .now) (d .args .shape) (d .args .grade) (d .args .stamp) (d .args .volume) (d .pre .0) (d .pre .1)))
 
--- src/lib.rt:76:19
 sub-deliver-block : tie.Need-sub-deliver-block
 sub-deliver-block c = search needs
 
--- src/lib.rt:76:19
 part-deliver-block-start : tie.Need-part-deliver-block-start
 part-deliver-block-start c = search needs
 
--- src/lib.rt:76:19
 part-deliver-block-end : tie.Need-part-deliver-block-end
 part-deliver-block-end c =
     let d = c .before .before .before in
     omega (arith, block-within (delivery-inside (d .args .book .now) (d .args .shape) (d .args .grade) (d .args .stamp) (d .args .volume) (d .pre .0) (d .pre .1)))
 
--- src/lib.rt:76:5
 deliver-block-requires : tie.Need-deliver-block-requires
 deliver-block-requires c κs =
     let d = c .before .before .before .before in
     rw (c .before .before .block-start .ensures, c .before .block-len .ensures, add-sub-cancel-left)
     (delivery-takes (d .args .book .now) (d .args .shape) (d .args .grade) (d .args .stamp) (d .args .volume) (d .pre .0) (d .pre .1))
 
--- src/lib.rt:70:1
 same-length : tie.Need-same-length
 same-length c = search needs
 
--- src/lib.rt:70:1
 returns : tie.Need-returns
 returns c =
     let l = c .before .before .before .before in

@@ -1,4 +1,4 @@
-use native.Mathlib.Omega.{arith}
+-- A refused call leaves every word; else the judged book takes the delivery.
 use borrow.Author.Needs.{needs}
 use mathlib.Core.Path.{subst}
 use Rattle.model.specs.declared.Call.the-variants.{Delivery}
@@ -6,20 +6,13 @@ use Rattle.summary.specs.Judge.{Judges}
 use Rattle.summary.specs.Outcome.{refused-outcome}
 use Rattle.summary.proofs.delivery.Statement.{statement}
 use Rattle.summary.proofs.delivery.Tie as tie
-use Rattle.summary.proofs.delivery.Reads as reads
-use Rattle.summary.proofs.delivery.Lts as lts
-use Rattle.summary.proofs.deliver.Reads as deliver-reads
-use Rattle.summary.proofs.judge.judge_delivery.Reads as judge-delivery-reads
 
--- src/lib.rt:83:11
 judge-delivery-requires : tie.Need-judge-delivery-requires
 judge-delivery-requires c κs = search needs
 
--- src/lib.rt:84:24
 enum-known-shape : tie.Need-enum-known-shape
 enum-known-shape c = search needs
 
--- src/lib.rt:84:45
 deliver-requires : tie.Need-deliver-requires
 deliver-requires c κs =
     let a = c .before .before .before .before .before .before .before .args in
@@ -27,23 +20,18 @@ deliver-requires c κs =
     let j = subst (Judges (a .book .now) (Delivery (a .grade) (a .stamp) (a .volume))) (told .1) (c .before .before .before .before .judge-delivery .ensures) in
     (j .1, j .0)
 
--- src/lib.rt:85:25
 enum-known-r : tie.Need-enum-known-r
 enum-known-r c = search needs
 
--- src/lib.rt:80:1
 same-length : tie.Need-same-length
 same-length c = search needs
 
--- src/lib.rt:80:1
 returns : tie.Need-returns
 returns c = search needs
 
--- src/lib.rt:80:1
 same-length-2 : tie.Need-same-length-2
 same-length-2 c = search needs
 
--- src/lib.rt:80:1
 returns-2 : tie.Need-returns-2
 returns-2 c =
     let a = c .before .before .before .before .before .before .args in

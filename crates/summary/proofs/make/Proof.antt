@@ -1,4 +1,4 @@
-use native.Mathlib.Omega.{arith}
+-- The constructor refuses what is outside the limits; else the shape is the one of these numbers.
 use borrow.Author.Needs.{needs}
 use mathlib.Core.Path.{refl, sym, ap, _∙_}
 use Prim.Native.Nat.{ℕ}
@@ -12,20 +12,13 @@ use Rattle.laws.specs.Proper.{Proper}
 use Rattle.summary.specs.Outcome.{refused-outcome, make-outside}
 use Rattle.summary.proofs.make.Statement.{statement}
 use Rattle.summary.proofs.make.Tie as tie
-use Rattle.summary.proofs.make.Reads as reads
-use Rattle.summary.proofs.make.Lts as lts
-use Rattle.shape.proofs.Shape.new.Reads as new-reads
-use Rattle.summary.proofs.make_shape.Reads as make-shape-reads
 
--- src/lib.rt:44:11
 new-requires : tie.Need-new-requires
 new-requires c κs = search needs
 
--- src/lib.rt:45:25
 enum-known-shape : tie.Need-enum-known-shape
 enum-known-shape c = search needs
 
--- src/lib.rt:45:35
 make-shape-requires : tie.Need-make-shape-requires
 make-shape-requires c κs =
     let a = c .before .before .before .before .before .before .args in
@@ -33,15 +26,12 @@ make-shape-requires c κs =
     let t = checked-within (a .k) (a .n) (a .m) (a .g) (told .0 .0) (ap replyOf (sym (told .1)) ∙ c .before .before .before .before .new .ensures) in
     rw (t .1) (record { limits = within-limits (a .k) (a .n) (a .m) (a .g) (t .0); last = refl })
 
--- src/lib.rt:46:45
 enum-told : tie.Need-enum-told
 enum-told c = search needs
 
--- src/lib.rt:41:1
 same-length : tie.Need-same-length
 same-length c = search needs
 
--- src/lib.rt:41:1
 returns : tie.Need-returns
 returns c =
     let l = c .before .before .before .before .before in
@@ -50,7 +40,6 @@ returns c =
     let t = checked-within (a .k) (a .n) (a .m) (a .g) (told .0 .0) (ap replyOf (sym (told .1)) ∙ l .before .before .new .ensures) in
     c .before .before .make-shape .ensures ∙ ap (λ (z : Shape). perform (a .book .now) (Make (z .k) (z .n) (z .m) (z .g))) (t .1)
 
--- src/lib.rt:41:1
 returns-2 : tie.Need-returns-2
 returns-2 c =
     let a = c .before .before .before .before .args in

@@ -1,40 +1,29 @@
-use native.Mathlib.Omega.{arith}
+-- A misfit is refused; else the head is written and every block emptied.
 use borrow.Author.Needs.{needs}
 use mathlib.Core.Path.{sym, _∙_}
 use Rattle.summary.specs.Outcome.{book-long, misfit-outcome, made-outcome}
 use Rattle.summary.proofs.make_shape.Statement.{statement}
 use Rattle.summary.proofs.make_shape.Tie as tie
-use Rattle.summary.proofs.make_shape.Reads as reads
-use Rattle.summary.proofs.make_shape.Lts as lts
-use Rattle.shape.proofs.Shape.book_len.Reads as book-len-reads
-use Rattle.summary.proofs.head.write_head.Reads as write-head-reads
-use Rattle.summary.proofs.sweep.clear_blocks.Reads as clear-blocks-reads
 
--- src/lib.rt:33:22
 book-len-requires : tie.Need-book-len-requires
 book-len-requires c κs = search needs
 
--- src/lib.rt:34:9
 returns : tie.Need-returns
 returns c =
     let d = c .before .before .before in
     misfit-outcome (d .args .shape) (d .pre) (d .args .book .now) (λ e. c .if1 .taken (e ∙ sym (c .before .book-len .ensures)))
 
--- src/lib.rt:36:5
 write-head-requires : tie.Need-write-head-requires
 write-head-requires c κs =
     let d = c .before .before .before .before in
     book-long (d .args .shape) (d .args .book .now) (c .before .if1 .left ∙ c .before .before .book-len .ensures)
 
--- src/lib.rt:37:5
 clear-blocks-requires : tie.Need-clear-blocks-requires
 clear-blocks-requires c κs = search needs
 
--- src/lib.rt:29:1
 same-length : tie.Need-same-length
 same-length c = search needs
 
--- src/lib.rt:29:1
 returns-2 : tie.Need-returns-2
 returns-2 c =
     let l = c .before .before .before .before .before .before .before .before in

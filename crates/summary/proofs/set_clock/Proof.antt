@@ -1,32 +1,24 @@
-use native.Mathlib.Omega.{arith}
+-- The head is written anew, the blocks stay sound under it and are advanced.
 use borrow.Author.Needs.{needs}
 use mathlib.Core.Path.{sym, _∙_}
 use Rattle.summary.specs.Judge.{open-size}
 use Rattle.summary.specs.Outcome.{book-long, headed-sound, clocked-outcome}
 use Rattle.summary.proofs.set_clock.Statement.{statement}
 use Rattle.summary.proofs.set_clock.Tie as tie
-use Rattle.summary.proofs.set_clock.Reads as reads
-use Rattle.summary.proofs.set_clock.Lts as lts
-use Rattle.summary.proofs.head.write_head.Reads as write-head-reads
-use Rattle.summary.proofs.sweep.advance_blocks.Reads as advance-blocks-reads
 
--- src/lib.rt:55:5
 write-head-requires : tie.Need-write-head-requires
 write-head-requires c κs =
     let d = c .before .before in
     book-long (d .args .shape) (d .args .book .now) (open-size (d .args .book .now) (d .args .shape) (d .args .from) (d .pre .0))
 
--- src/lib.rt:56:5
 advance-blocks-requires : tie.Need-advance-blocks-requires
 advance-blocks-requires c κs =
     let d = c .before .before .before .before .before .before in
     rw (c .before .before .before .write-head .ensures) (headed-sound (d .args .book .now) (d .args .shape) (d .args .from) (d .args .to) (d .pre .0) (d .pre .1))
 
--- src/lib.rt:51:1
 same-length : tie.Need-same-length
 same-length c = search needs
 
--- src/lib.rt:51:1
 returns : tie.Need-returns
 returns c =
     let d = c .before .before .before .before .before .before .before .before .before in

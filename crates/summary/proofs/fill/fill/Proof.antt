@@ -1,3 +1,4 @@
+-- After each turn one level more has the volume, and the next is as it was.
 use borrow.Author.Needs.{needs}
 use mathlib.Core.Path.{_≡_, refl, sym, ap, _∙_}
 use mathlib.Core.List.{List}
@@ -12,9 +13,6 @@ use Rattle.summary.specs.Fill.{Fills, level-in, level-takes, level-fille
 use native.Mathlib.Omega.{arith}
 use Rattle.summary.proofs.fill.fill.Statement.{statement}
 use Rattle.summary.proofs.fill.fill.Tie as tie
-use Rattle.summary.proofs.fill.fill.Reads as reads
-use Rattle.summary.proofs.fill.fill.Lts as lts
-use Rattle.summary.proofs.fill.insert_at.Reads as insert-at-reads
 
 abbrev Inv-loop : tie.InvT-loop
 Inv-loop block₀ s stamp parity x v at total i₀ block i =
@@ -24,17 +22,14 @@ Inv-loop block₀ s stamp parity x v at total i₀ block i =
 abbrev μ-loop : tie.MeasureT-loop
 μ-loop block₀ s stamp parity x v at total i₀ block i = suc (s .last) - i
 
--- src/fill.rt:45:17
 mul-total : tie.Need-mul-total Inv-loop μ-loop
 mul-total c = search needs
 
--- src/fill.rt:45:17
 slice-read-total : tie.Need-slice-read-total Inv-loop μ-loop
 slice-read-total c =
     let d = c .before .before in
     omega (arith, blockWords-halves (d .args .s), d .pre .takes .whole .size, d .pre .half)
 
--- src/fill.rt:45:17
 add-total : tie.Need-add-total Inv-loop μ-loop
 add-total c =
     let d = c .before .before in
@@ -42,21 +37,17 @@ add-total c =
     let same : getD ws (d .args .parity) 0 ≡ getD ws (interval (d .args .s) (d .args .stamp) % 2) 0 = ap (λ (z : ℕ). getD ws z 0) (d .pre .half) in
     omega (arith, d .pre .takes .room, pow-mono (d .pre .takes .whole .proper .limits .high-m))
 
--- src/fill.rt:46:5
 mul-block : tie.Need-mul-block Inv-loop μ-loop
 mul-block c = search needs
 
--- src/fill.rt:46:5
 slice-write-block : tie.Need-slice-write-block Inv-loop μ-loop
 slice-write-block c =
     let d = c .before .before in
     omega (arith, blockWords-halves (d .args .s), d .pre .takes .whole .size, d .pre .half)
 
--- src/fill.rt:48:5
 loop-holds : tie.Need-loop-holds Inv-loop μ-loop
 loop-holds c = (omega arith, refl, λ ws e f. e ∙ rw (f .half))
 
--- src/fill.rt:49:9
 insert-at-requires : tie.Need-insert-at-requires Inv-loop μ-loop
 insert-at-requires c κs =
     let l = c .before .before .before .loop in
@@ -68,15 +59,12 @@ insert-at-requires c κs =
       rw e (level-takes (a .s) (a .stamp) (a .parity) (a .x) (a .v) (a .block .now) (d .pre) (l .i) low),
     )
 
--- src/fill.rt:50:9
 add-i : tie.Need-add-i Inv-loop μ-loop
 add-i c = search needs
 
--- src/fill.rt:48:5
 loop-less : tie.Need-loop-less Inv-loop μ-loop
 loop-less c = search needs
 
--- src/fill.rt:48:5
 loop-again : tie.Need-loop-again Inv-loop μ-loop
 loop-again c =
     let l = c .before .before .before .before .before .before .loop in
@@ -88,13 +76,11 @@ loop-again c =
           ∙ rw (l .inv .2 ws e f) (level-filled (a .s) (a .stamp) (a .parity) (a .x) (a .v) ws f (l .i) low)),
     )
 
--- src/fill.rt:40:1
 same-length : tie.Need-same-length Inv-loop μ-loop
 same-length c =
     let a = c .before .before .before .before .before .args in
     c .before .before .loop .inv .1 ∙ length-set (a .block .now) (a .parity) (getD (a .block .now) (a .parity) 0 + a .v)
 
--- src/fill.rt:40:1
 returns : tie.Need-returns Inv-loop μ-loop
 returns c =
     let l = c .before .before .loop in

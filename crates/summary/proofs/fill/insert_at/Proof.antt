@@ -1,3 +1,4 @@
+-- The part that comes back is put in the place of the level.
 use native.Mathlib.Omega.{arith}
 use borrow.Author.Needs.{needs}
 use borrow.Rule.Slice.PartMut.{post-is}
@@ -6,49 +7,34 @@ use native.Mathlib.Nat.{add-sub-cancel-left}
 use Rattle.block.specs.Steps.{level-within}
 use Rattle.summary.proofs.fill.insert_at.Statement.{statement}
 use Rattle.summary.proofs.fill.insert_at.Tie as tie
-use Rattle.summary.proofs.fill.insert_at.Reads as reads
-use Rattle.summary.proofs.fill.insert_at.Lts as lts
-use Rattle.insert.proofs.insert.Reads as insert-reads
-use Rattle.shape.proofs.Shape.level_len.Reads as level-len-reads
-use Rattle.shape.proofs.Shape.level_start.Reads as level-start-reads
 
--- src/fill.rt:18:9
 level-start-requires : tie.Need-level-start-requires
 level-start-requires c κs = search needs
 
--- src/fill.rt:19:17
 level-len-requires : tie.Need-level-len-requires
 level-len-requires c κs = search needs
 
--- src/fill.rt:19:13
 add-e : tie.Need-add-e
 add-e c = omega (arith, level-within (c .before .before .before .pre .0))
 
--- src/fill.rt:20:20
 mul-insert : tie.Need-mul-insert
 mul-insert c = omega (arith, level-within (c .before .before .before .pre .0))
 
--- src/fill.rt:20:20
 sub-insert : tie.Need-sub-insert
 sub-insert c = search needs
 
--- src/fill.rt:20:20
 part-insert-start : tie.Need-part-insert-start
 part-insert-start c = search needs
 
--- src/fill.rt:20:20
 part-insert-end : tie.Need-part-insert-end
 part-insert-end c = omega (arith, level-within (c .before .before .before .pre .0))
 
--- src/fill.rt:20:5
 insert-requires : tie.Need-insert-requires
 insert-requires c κs = rw (c .before .before .level-start .ensures, c .before .level-len .ensures, add-sub-cancel-left) (c .before .before .before .before .pre .1)
 
--- src/fill.rt:14:1
 same-length : tie.Need-same-length
 same-length c = search needs
 
--- src/fill.rt:14:1
 returns : tie.Need-returns
 returns c =
     let l = c .before .before .before .before in

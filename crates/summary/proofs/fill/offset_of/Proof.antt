@@ -1,21 +1,16 @@
+-- The remainder is taken by the power that was computed.
 use native.Mathlib.Omega.{arith}
 use borrow.Author.Needs.{needs}
 use lib.Pow.{pow-pos}
 use Rattle.summary.proofs.fill.offset_of.Statement.{statement}
 use Rattle.summary.proofs.fill.offset_of.Tie as tie
-use Rattle.summary.proofs.fill.offset_of.Reads as reads
-use Rattle.summary.proofs.fill.offset_of.Lts as lts
-use Rattle.scan.proofs.power.Reads as power-reads
 
--- src/fill.rt:36:9
 power-requires : tie.Need-power-requires
 power-requires c κs = search needs
 
--- src/fill.rt:36:5
 rem-result : tie.Need-rem-result
 rem-result c = omega (arith, c .power .ensures, pow-pos (c .before .args .s .k))
 
--- src/fill.rt:32:1
 returns : tie.Need-returns
 returns c = rw (c .power .ensures)
 

@@ -1,32 +1,24 @@
-use native.Mathlib.Omega.{arith}
+-- The three words are tested in order, and the tests are those of the definition.
 use borrow.Author.Needs.{needs}
 use borrow.Author.Tests.{eq-eqb, ne-eqb}
 use Rattle.summary.proofs.head.is_blank.Statement.{statement}
 use Rattle.summary.proofs.head.is_blank.Tie as tie
-use Rattle.summary.proofs.head.is_blank.Reads as reads
-use Rattle.summary.proofs.head.is_blank.Lts as lts
 
--- src/head.rt:24:8
 shared-slice-read-if1 : tie.Need-shared-slice-read-if1
 shared-slice-read-if1 c = search needs
 
--- src/head.rt:25:9
 returns : tie.Need-returns
 returns c = rw (ne-eqb _ 0 (c .if1 .taken))
 
--- src/head.rt:27:8
 shared-slice-read-if2 : tie.Need-shared-slice-read-if2
 shared-slice-read-if2 c = search needs
 
--- src/head.rt:28:9
 returns-2 : tie.Need-returns-2
 returns-2 c = rw (eq-eqb _ 0 (c .before .before .if1 .left), ne-eqb _ 0 (c .if2 .taken))
 
--- src/head.rt:30:5
 shared-slice-read-result : tie.Need-shared-slice-read-result
 shared-slice-read-result c = search needs
 
--- src/head.rt:20:1
 returns-3 : tie.Need-returns-3
 returns-3 c = rw (eq-eqb _ 0 (c .before .before .before .if1 .left), eq-eqb _ 0 (c .before .if2 .left))
 

@@ -1,4 +1,4 @@
-use native.Mathlib.Omega.{arith}
+-- The constructor tells whether the shape is within its limits; the rest is `with_shape`.
 use borrow.Author.Needs.{needs}
 use mathlib.Core.Path.{sym, ap, _∙_}
 use Rattle.shape.specs.Limits.{replyOf}
@@ -6,40 +6,28 @@ use Rattle.summary.specs.Head.{opened-short, opened-unsound, head-outsid
 use Rattle.shape.specs.LimitsLaws.{checked-within, checked-outside}
 use Rattle.summary.proofs.head.open.Statement.{statement}
 use Rattle.summary.proofs.head.open.Tie as tie
-use Rattle.summary.proofs.head.open.Reads as reads
-use Rattle.summary.proofs.head.open.Lts as lts
-use Rattle.shape.proofs.Shape.new.Reads as new-reads
-use Rattle.summary.proofs.head.with_shape.Reads as with-shape-reads
 
--- src/head.rt:56:9
 returns : tie.Need-returns
 returns c = opened-short _ (c .if1 .taken)
 
--- src/head.rt:58:22
 shared-slice-read-new : tie.Need-shared-slice-read-new
 shared-slice-read-new c = search needs
 
--- src/head.rt:58:31
 shared-slice-read-new-2 : tie.Need-shared-slice-read-new-2
 shared-slice-read-new-2 c = search needs
 
--- src/head.rt:58:40
 shared-slice-read-new-3 : tie.Need-shared-slice-read-new-3
 shared-slice-read-new-3 c = search needs
 
--- src/head.rt:58:49
 shared-slice-read-new-4 : tie.Need-shared-slice-read-new-4
 shared-slice-read-new-4 c = search needs
 
--- src/head.rt:58:11
 new-requires : tie.Need-new-requires
 new-requires c κs = search needs
 
--- src/head.rt:59:25
 enum-known-shape : tie.Need-enum-known-shape
 enum-known-shape c = search needs
 
--- src/head.rt:59:35
 with-shape-requires : tie.Need-with-shape-requires
 with-shape-requires c κs =
     let f = c .before .shape .given in
@@ -47,15 +35,12 @@ with-shape-requires c κs =
     let t = checked-within _ _ _ _ (f .0 .0) (ap replyOf (sym (f .1)) ∙ h) in
     record { long = c .before .before .before .before .before .before .before .before .if1 .left; inside = t .0; same = t .1 }
 
--- src/head.rt:60:45
 enum-told : tie.Need-enum-told
 enum-told c = search needs
 
--- src/head.rt:52:1
 returns-2 : tie.Need-returns-2
 returns-2 c = search needs
 
--- src/head.rt:52:1
 returns-3 : tie.Need-returns-3
 returns-3 c = opened-unsound _ (c .before .before .before .before .before .before .before .if1 .left) (head-outside _ (checked-outside _ _ _ _ (ap replyOf (sym (c .enum-told .given .1)) ∙ c .before .before .new .ensures)))
 

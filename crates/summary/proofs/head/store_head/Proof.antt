@@ -1,49 +1,38 @@
+-- Eight stores into the first eight words leave the head and the rest.
 use native.Mathlib.Omega.{arith}
 use borrow.Author.Needs.{needs}
 use lib.ListN.{length-set}
 use Rattle.summary.specs.Head.{head-stored}
 use Rattle.summary.proofs.head.store_head.Statement.{statement}
 use Rattle.summary.proofs.head.store_head.Tie as tie
-use Rattle.summary.proofs.head.store_head.Reads as reads
-use Rattle.summary.proofs.head.store_head.Lts as lts
 
--- src/head.rt:71:5
 slice-write-book : tie.Need-slice-write-book
 slice-write-book c = search needs
 
--- src/head.rt:72:5
 slice-write-book-2 : tie.Need-slice-write-book-2
 slice-write-book-2 c = simp length-set (omega (arith, c .pre))
 
--- src/head.rt:73:5
 slice-write-book-3 : tie.Need-slice-write-book-3
 slice-write-book-3 c = simp length-set (omega (arith, c .pre))
 
--- src/head.rt:74:5
 slice-write-book-4 : tie.Need-slice-write-book-4
 slice-write-book-4 c = simp length-set (omega (arith, c .pre))
 
--- src/head.rt:75:5
 slice-write-book-5 : tie.Need-slice-write-book-5
 slice-write-book-5 c = simp length-set (omega (arith, c .pre))
 
--- src/head.rt:76:5
 slice-write-book-6 : tie.Need-slice-write-book-6
 slice-write-book-6 c = simp length-set (omega (arith, c .pre))
 
--- src/head.rt:77:5
 slice-write-book-7 : tie.Need-slice-write-book-7
 slice-write-book-7 c = simp length-set (omega (arith, c .pre))
 
--- src/head.rt:78:5
 slice-write-book-8 : tie.Need-slice-write-book-8
 slice-write-book-8 c = simp length-set (omega (arith, c .pre))
 
--- src/head.rt:67:1
 same-length : tie.Need-same-length
 same-length c = search needs
 
--- src/head.rt:67:1
 returns : tie.Need-returns
 returns c = head-stored (c .args .k) (c .args .n) (c .args .m) (c .args .g) (c .args .clock) (c .args .book .now) (c .pre)
 

@@ -1,4 +1,4 @@
-use native.Mathlib.Omega.{arith}
+-- Each return follows from the condition of the head, or the length, that failed.
 use borrow.Author.Needs.{needs}
 use borrow.Author.Tests.{not-true, not-false}
 use mathlib.Core.Path.{_≡_, refl, sym, ap, _∙_}
@@ -6,34 +6,24 @@ use Rattle.shape.specs.Layout.{bookWords}
 use Rattle.summary.specs.Head.{opened-unsound, opened-misfit, opened-whole, head-ahead, head-marked, head-sound}
 use Rattle.summary.proofs.head.with_shape.Statement.{statement}
 use Rattle.summary.proofs.head.with_shape.Tie as tie
-use Rattle.summary.proofs.head.with_shape.Reads as reads
-use Rattle.summary.proofs.head.with_shape.Lts as lts
-use Rattle.shape.proofs.Shape.book_len.Reads as book-len-reads
-use Rattle.summary.proofs.head.is_blank.Reads as is-blank-reads
 
--- src/head.rt:38:17
 shared-slice-read-clock : tie.Need-shared-slice-read-clock
 shared-slice-read-clock c = search needs
 
--- src/head.rt:40:9
 returns : tie.Need-returns
 returns c = let p = c .before .before .before .pre in opened-unsound _ (p .long) (head-ahead _ (p .inside) (c .if1 .taken))
 
--- src/head.rt:42:9
 is-blank-requires : tie.Need-is-blank-requires
 is-blank-requires c κs = search needs
 
--- src/head.rt:43:9
 returns-2 : tie.Need-returns-2
 returns-2 c =
     let p = c .before .before .before .before .before .pre in
     opened-unsound _ (p .long) (head-marked _ (p .inside) (c .before .before .if1 .left) (sym (c .before .is-blank .ensures) ∙ not-true _ (c .if2 .taken)))
 
--- src/head.rt:45:22
 book-len-requires : tie.Need-book-len-requires
 book-len-requires c κs = search needs
 
--- src/head.rt:46:9
 returns-3 : tie.Need-returns-3
 returns-3 c =
     let d = c .before .before .before in
@@ -41,7 +31,6 @@ returns-3 c =
     let sound = head-sound _ (p .inside) (d .before .if1 .left) (sym (d .is-blank .ensures) ∙ not-false _ (c .before .before .if2 .left)) in
     opened-misfit _ (p .long) sound (λ e. c .if3 .taken (e ∙ sym (c .before .book-len .ensures ∙ ap bookWords (p .same))))
 
--- src/head.rt:34:1
 returns-4 : tie.Need-returns-4
 returns-4 c =
     let d = c .before .before .before in

@@ -1,4 +1,4 @@
-use native.Mathlib.Omega.{arith}
+-- A refusal at the head is the refusal of the call; else the head is open.
 use borrow.Author.Needs.{needs}
 use mathlib.Core.Path.{subst}
 use Rattle.model.specs.declared.Call.the-variants.{Clock}
@@ -6,34 +6,24 @@ use Rattle.summary.specs.Head.{Opens}
 use Rattle.summary.specs.Judge.{head-judges}
 use Rattle.summary.proofs.judge.judge_clock.Statement.{statement}
 use Rattle.summary.proofs.judge.judge_clock.Tie as tie
-use Rattle.summary.proofs.judge.judge_clock.Reads as reads
-use Rattle.summary.proofs.judge.judge_clock.Lts as lts
-use Rattle.summary.proofs.head.open.Reads as open-reads
-use Rattle.summary.proofs.judge.judge_clock_in.Reads as judge-clock-in-reads
 
--- src/judge.rt:31:11
 open-requires : tie.Need-open-requires
 open-requires c κs = search needs
 
--- src/judge.rt:32:24
 enum-known-shape : tie.Need-enum-known-shape
 enum-known-shape c = search needs
 
--- src/judge.rt:32:42
 judge-clock-in-requires : tie.Need-judge-clock-in-requires
 judge-clock-in-requires c κs =
     let o = subst (Opens (c .before .before .before .before .before .args .book .now)) (c .before .shape .given .1) (c .before .before .before .«open» .ensures) in
     record { number = o .0; same = o .1; now = o .2 }
 
--- src/judge.rt:33:25
 enum-known-r : tie.Need-enum-known-r
 enum-known-r c = search needs
 
--- src/judge.rt:28:1
 returns : tie.Need-returns
 returns c = search needs
 
--- src/judge.rt:28:1
 returns-2 : tie.Need-returns-2
 returns-2 c =
     let d = c .before .before .before .before .before in

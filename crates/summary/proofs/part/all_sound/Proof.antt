@@ -1,4 +1,4 @@
-use native.Mathlib.Omega.{arith}
+-- What is left of the test at each grade, with what was seen, is the whole test.
 use borrow.Author.Needs.{needs}
 use borrow.Author.Tests.{not-true, not-false}
 use mathlib.Core.Bool.{Bool}
@@ -11,9 +11,6 @@ use Rattle.model.specs.Sound.{allFrom, soundBlock}
 use Rattle.laws.specs.Loops.{allLeft, allLeft-start, allLeft-step, allLeft-end}
 use Rattle.summary.proofs.part.all_sound.Statement.{statement}
 use Rattle.summary.proofs.part.all_sound.Tie as tie
-use Rattle.summary.proofs.part.all_sound.Reads as reads
-use Rattle.summary.proofs.part.all_sound.Lts as lts
-use Rattle.summary.proofs.part.block_sound.Reads as block-sound-reads
 
 -- the test of one block
 abbrev tested : Shape → List ℕ → ℕ → Bool
@@ -25,41 +22,33 @@ Inv-loop book s count grade₀ grade = allLeft (tested s book) grade (s .g) ≡ 
 abbrev μ-loop : tie.MeasureT-loop
 μ-loop book s count grade₀ grade = s .g - grade
 
--- src/judge.rt:55:17
 cast-count : tie.Need-cast-count Inv-loop μ-loop
 cast-count c = search needs
 
--- src/judge.rt:57:5
 loop-holds : tie.Need-loop-holds Inv-loop μ-loop
 loop-holds c = allLeft-start (tested (c .before .before .args .s) (c .before .before .args .book .now)) (c .before .before .args .s .g)
 
--- src/judge.rt:58:13
 block-sound-requires : tie.Need-block-sound-requires Inv-loop μ-loop
 block-sound-requires c κs = search needs
 
--- src/judge.rt:59:13
 returns : tie.Need-returns Inv-loop μ-loop
 returns c =
     let l = c .before .before .before .loop in
     let a = c .before .before .before .before .before .before .args in
     rw (allLeft-step (tested (a .s) (a .book .now)) (l .grade) (a .s .g) (c .before .before .loop-test .taken), sym (c .before .block-sound .ensures) ∙ not-true _ (c .if1 .taken)) at (l .inv)
 
--- src/judge.rt:61:9
 add-grade : tie.Need-add-grade Inv-loop μ-loop
 add-grade c = search needs
 
--- src/judge.rt:57:5
 loop-less : tie.Need-loop-less Inv-loop μ-loop
 loop-less c = search needs
 
--- src/judge.rt:57:5
 loop-again : tie.Need-loop-again Inv-loop μ-loop
 loop-again c =
     let l = c .before .before .before .loop in
     let a = c .before .before .before .before .before .before .args in
     rw (allLeft-step (tested (a .s) (a .book .now)) (l .grade) (a .s .g) (c .before .before .loop-test .taken), sym (c .before .block-sound .ensures) ∙ not-false _ (c .if1 .left)) at (l .inv)
 
--- src/judge.rt:51:1
 returns-2 : tie.Need-returns-2 Inv-loop μ-loop
 returns-2 c =
     let l = c .before .loop in

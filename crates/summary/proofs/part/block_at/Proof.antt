@@ -1,43 +1,32 @@
+-- The block starts where the layout says and ends within the book.
 use native.Mathlib.Omega.{arith}
 use borrow.Author.Needs.{needs}
 use native.Mathlib.Nat.{add-sub-cancel-left}
 use Rattle.summary.specs.Sweeps.{block-within}
 use Rattle.summary.proofs.part.block_at.Statement.{statement}
 use Rattle.summary.proofs.part.block_at.Tie as tie
-use Rattle.summary.proofs.part.block_at.Reads as reads
-use Rattle.summary.proofs.part.block_at.Lts as lts
-use Rattle.shape.proofs.Shape.block_len.Reads as block-len-reads
-use Rattle.shape.proofs.Shape.block_start.Reads as block-start-reads
 
--- src/judge.rt:28:9
 block-start-requires : tie.Need-block-start-requires
 block-start-requires c κs = search needs
 
--- src/judge.rt:29:17
 block-len-requires : tie.Need-block-len-requires
 block-len-requires c κs = search needs
 
--- src/judge.rt:29:13
 add-e : tie.Need-add-e
 add-e c = omega (arith, block-within (c .before .before .before .pre))
 
--- src/judge.rt:30:5
 mul-result : tie.Need-mul-result
 mul-result c = omega (arith, block-within (c .before .before .before .pre))
 
--- src/judge.rt:30:5
 sub-result : tie.Need-sub-result
 sub-result c = search needs
 
--- src/judge.rt:30:5
 part-result-start : tie.Need-part-result-start
 part-result-start c = search needs
 
--- src/judge.rt:30:5
 part-result-end : tie.Need-part-result-end
 part-result-end c = omega (arith, block-within (c .before .before .before .pre))
 
--- src/judge.rt:24:1
 returns : tie.Need-returns
 returns c = rw (c .before .before .block-start .ensures, c .before .block-len .ensures, add-sub-cancel-left)
 

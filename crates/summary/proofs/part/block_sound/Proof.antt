@@ -1,27 +1,20 @@
-use native.Mathlib.Omega.{arith}
+-- The part that is handed on is the block of the grade.
 use borrow.Author.Needs.{needs}
 use mathlib.Core.Path.{ap, _∙_}
 use Rattle.model.specs.Sound.{soundBlock}
 use Rattle.laws.specs.BookWords.{length-blockPart}
 use Rattle.summary.proofs.part.block_sound.Statement.{statement}
 use Rattle.summary.proofs.part.block_sound.Tie as tie
-use Rattle.summary.proofs.part.block_sound.Reads as reads
-use Rattle.summary.proofs.part.block_sound.Lts as lts
-use Rattle.block.proofs.check.Reads as check-reads
-use Rattle.summary.proofs.part.block_at.Reads as block-at-reads
 
--- src/judge.rt:38:18
 block-at-requires : tie.Need-block-at-requires
 block-at-requires c κs = search needs
 
--- src/judge.rt:38:5
 check-requires : tie.Need-check-requires
 check-requires c κs =
     let b = c .before .before .pre in
     let a = c .before .before .args in
     rw (c .block-at .ensures) (record { proper = b .proper; size = length-blockPart (a .s) (a .grade) (b .inside) (a .book .now) (b .size) })
 
--- src/judge.rt:34:1
 returns : tie.Need-returns
 returns c = c .check .ensures ∙ ap (soundBlock (c .before .before .before .args .s)) (c .before .block-at .ensures)
 

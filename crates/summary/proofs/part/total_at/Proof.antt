@@ -1,3 +1,4 @@
+-- The total of the half that serves an interval is the word of its parity.
 use native.Mathlib.Omega.{arith}
 use borrow.Author.Needs.{needs}
 use mathlib.Core.Path.{sym, ap, _∙_}
@@ -11,24 +12,16 @@ use Rattle.laws.specs.BookWords.{length-blockPart}
 use Rattle.laws.specs.Halves.{total-decode}
 use Rattle.summary.proofs.part.total_at.Statement.{statement}
 use Rattle.summary.proofs.part.total_at.Tie as tie
-use Rattle.summary.proofs.part.total_at.Reads as reads
-use Rattle.summary.proofs.part.total_at.Lts as lts
-use Rattle.block.proofs.total.Reads as total-reads
-use Rattle.summary.proofs.part.block_at.Reads as block-at-reads
 
--- src/judge.rt:46:22
 cast-j : tie.Need-cast-j
 cast-j c = search needs
 
--- src/judge.rt:46:13
 shr-j : tie.Need-shr-j
 shr-j c = search needs
 
--- src/judge.rt:47:18
 block-at-requires : tie.Need-block-at-requires
 block-at-requires c κs = search needs
 
--- src/judge.rt:47:5
 total-requires : tie.Need-total-requires
 total-requires c κs =
     let b = c .before .before .before .pre in
@@ -36,7 +29,6 @@ total-requires c κs =
     let size = length-blockPart (a .s) (a .grade) (b .inside) (a .book .now) (b .size) in
     rw (c .block-at .ensures) (omega (arith, size, blockWords-halves (a .s)))
 
--- src/judge.rt:42:1
 returns : tie.Need-returns
 returns c =
     let a = c .before .before .before .before .args in

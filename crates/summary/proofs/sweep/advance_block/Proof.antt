@@ -1,3 +1,4 @@
+-- The part that comes back is put in the place of the block.
 use native.Mathlib.Omega.{arith}
 use borrow.Author.Needs.{needs}
 use borrow.Rule.Slice.PartMut.{post-is}
@@ -7,41 +8,28 @@ use Rattle.laws.specs.BookWords.{length-blockPart}
 use Rattle.summary.specs.Sweeps.{block-within}
 use Rattle.summary.proofs.sweep.advance_block.Statement.{statement}
 use Rattle.summary.proofs.sweep.advance_block.Tie as tie
-use Rattle.summary.proofs.sweep.advance_block.Reads as reads
-use Rattle.summary.proofs.sweep.advance_block.Lts as lts
-use Rattle.block.proofs.advance.Reads as advance-reads
-use Rattle.shape.proofs.Shape.block_len.Reads as block-len-reads
-use Rattle.shape.proofs.Shape.block_start.Reads as block-start-reads
 
--- src/sweep.rt:40:9
 block-start-requires : tie.Need-block-start-requires
 block-start-requires c κs = search needs
 
--- src/sweep.rt:41:17
 block-len-requires : tie.Need-block-len-requires
 block-len-requires c κs = search needs
 
--- src/sweep.rt:41:13
 add-e : tie.Need-add-e
 add-e c = omega (arith, block-within (c .before .before .before .pre .0))
 
--- src/sweep.rt:42:20
 mul-advance : tie.Need-mul-advance
 mul-advance c = omega (arith, block-within (c .before .before .before .pre .0))
 
--- src/sweep.rt:42:20
 sub-advance : tie.Need-sub-advance
 sub-advance c = search needs
 
--- src/sweep.rt:42:20
 part-advance-start : tie.Need-part-advance-start
 part-advance-start c = search needs
 
--- src/sweep.rt:42:20
 part-advance-end : tie.Need-part-advance-end
 part-advance-end c = omega (arith, block-within (c .before .before .before .pre .0))
 
--- src/sweep.rt:42:5
 advance-requires : tie.Need-advance-requires
 advance-requires c κs =
     let d = c .before .before .before .before in
@@ -49,11 +37,9 @@ advance-requires c κs =
     rw (c .before .before .block-start .ensures, c .before .block-len .ensures, add-sub-cancel-left)
     (record { proper = b .proper; size = length-blockPart (d .args .s) (d .args .grade) (b .inside) (d .args .book .now) (b .size); sound = d .pre .1 })
 
--- src/sweep.rt:36:1
 same-length : tie.Need-same-length
 same-length c = search needs
 
--- src/sweep.rt:36:1
 returns : tie.Need-returns
 returns c =
     let l = c .before .before .before .before in

@@ -1,3 +1,4 @@
+-- After each turn one block more is advanced and the others are as they were.
 use borrow.Author.Needs.{needs}
 use mathlib.Core.Path.{_≡_, refl, sym, ap, _∙_}
 use mathlib.Core.List.{List, _++_}
@@ -10,9 +11,6 @@ use Rattle.summary.specs.Sweeps.{emptied, emptied-size, advanced, advanc
 use native.Mathlib.Omega.{arith}
 use Rattle.summary.proofs.sweep.advance_blocks.Statement.{statement}
 use Rattle.summary.proofs.sweep.advance_blocks.Tie as tie
-use Rattle.summary.proofs.sweep.advance_blocks.Reads as reads
-use Rattle.summary.proofs.sweep.advance_blocks.Lts as lts
-use Rattle.summary.proofs.sweep.advance_block.Reads as advance-block-reads
 
 abbrev Inv-loop : tie.InvT-loop
 Inv-loop book₀ s old new count grade₀ book grade = (grade ≤ s .g) × (length book ≡ length book₀) × (book ≡ swept s (advanced s old new book₀) grade book₀)
@@ -20,18 +18,15 @@ Inv-loop book₀ s old new count grade₀ book grade = (grade ≤ s .g) × (leng
 abbrev μ-loop : tie.MeasureT-loop
 μ-loop book₀ s old new count grade₀ book grade = s .g - grade
 
--- src/sweep.rt:50:17
 cast-count : tie.Need-cast-count Inv-loop μ-loop
 cast-count c = search needs
 
--- src/sweep.rt:52:5
 loop-holds : tie.Need-loop-holds Inv-loop μ-loop
 loop-holds c =
     let d = c .before .before in
     let a = d .args in
     (omega arith, refl, sym (swept-none (a .s) (advanced (a .s) (a .old) (a .new) (a .book .now)) (a .book .now) (d .pre .size) (advanced-size (a .s) (a .old) (a .new) (a .book .now) (d .pre))))
 
--- src/sweep.rt:53:9
 advance-block-requires : tie.Need-advance-block-requires Inv-loop μ-loop
 advance-block-requires c κs =
     let l = c .before .before .loop in
@@ -42,15 +37,12 @@ advance-block-requires c κs =
     let part = swept-part (a .s) f (a .book .now) (d .pre .size) (advanced-size (a .s) (a .old) (a .new) (a .book .now) (d .pre)) (l .grade) (l .inv .0) in
     (record { proper = d .pre .proper; size = l .inv .1 ∙ d .pre .size; inside = h }, rw (l .inv .2, part) (d .pre .sound (l .grade) h))
 
--- src/sweep.rt:54:9
 add-grade : tie.Need-add-grade Inv-loop μ-loop
 add-grade c = search needs
 
--- src/sweep.rt:52:5
 loop-less : tie.Need-loop-less Inv-loop μ-loop
 loop-less c = search needs
 
--- src/sweep.rt:52:5
 loop-again : tie.Need-loop-again Inv-loop μ-loop
 loop-again c =
     let l = c .before .before .before .before .before .loop in
@@ -66,11 +58,9 @@ loop-again c =
           ∙ rw (l .inv .2, part) (swept-more (a .s) f (a .book .now) (d .pre .size) sizes (l .grade) h)),
     )
 
--- src/sweep.rt:46:1
 same-length : tie.Need-same-length Inv-loop μ-loop
 same-length c = c .before .loop .inv .1
 
--- src/sweep.rt:46:1
 returns : tie.Need-returns Inv-loop μ-loop
 returns c =
     let l = c .before .loop in

@@ -1,3 +1,4 @@
+-- The part that comes back is put in the place of the block.
 use native.Mathlib.Omega.{arith}
 use borrow.Author.Needs.{needs}
 use borrow.Rule.Slice.PartMut.{post-is}
@@ -6,49 +7,34 @@ use native.Mathlib.Nat.{add-sub-cancel-left}
 use Rattle.summary.specs.Sweeps.{block-within}
 use Rattle.summary.proofs.sweep.clear_block.Statement.{statement}
 use Rattle.summary.proofs.sweep.clear_block.Tie as tie
-use Rattle.summary.proofs.sweep.clear_block.Reads as reads
-use Rattle.summary.proofs.sweep.clear_block.Lts as lts
-use Rattle.block.proofs.clear.Reads as clear-reads
-use Rattle.shape.proofs.Shape.block_len.Reads as block-len-reads
-use Rattle.shape.proofs.Shape.block_start.Reads as block-start-reads
 
--- src/sweep.rt:18:9
 block-start-requires : tie.Need-block-start-requires
 block-start-requires c κs = search needs
 
--- src/sweep.rt:19:17
 block-len-requires : tie.Need-block-len-requires
 block-len-requires c κs = search needs
 
--- src/sweep.rt:19:13
 add-e : tie.Need-add-e
 add-e c = omega (arith, block-within (c .before .before .before .pre))
 
--- src/sweep.rt:20:18
 mul-clear : tie.Need-mul-clear
 mul-clear c = omega (arith, block-within (c .before .before .before .pre))
 
--- src/sweep.rt:20:18
 sub-clear : tie.Need-sub-clear
 sub-clear c = search needs
 
--- src/sweep.rt:20:18
 part-clear-start : tie.Need-part-clear-start
 part-clear-start c = search needs
 
--- src/sweep.rt:20:18
 part-clear-end : tie.Need-part-clear-end
 part-clear-end c = omega (arith, block-within (c .before .before .before .pre))
 
--- src/sweep.rt:20:5
 clear-requires : tie.Need-clear-requires
 clear-requires c κs = search needs
 
--- src/sweep.rt:14:1
 same-length : tie.Need-same-length
 same-length c = search needs
 
--- src/sweep.rt:14:1
 returns : tie.Need-returns
 returns c =
     let l = c .before .before .before .before in

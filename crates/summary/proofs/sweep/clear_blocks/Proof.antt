@@ -1,3 +1,4 @@
+-- After each turn one block more is empty and the others are as they were.
 use borrow.Author.Needs.{needs}
 use mathlib.Core.Path.{_≡_, refl, sym, ap, _∙_}
 use mathlib.Core.List.{List, _++_}
@@ -10,9 +11,6 @@ use Rattle.summary.specs.Sweeps.{emptied, emptied-size, advanced, advanc
 use native.Mathlib.Omega.{arith}
 use Rattle.summary.proofs.sweep.clear_blocks.Statement.{statement}
 use Rattle.summary.proofs.sweep.clear_blocks.Tie as tie
-use Rattle.summary.proofs.sweep.clear_blocks.Reads as reads
-use Rattle.summary.proofs.sweep.clear_blocks.Lts as lts
-use Rattle.summary.proofs.sweep.clear_block.Reads as clear-block-reads
 
 abbrev Inv-loop : tie.InvT-loop
 Inv-loop book₀ s count grade₀ book grade = (grade ≤ s .g) × (length book ≡ length book₀) × (book ≡ swept s (emptied s) grade book₀)
@@ -20,32 +18,26 @@ Inv-loop book₀ s count grade₀ book grade = (grade ≤ s .g) × (length book 
 abbrev μ-loop : tie.MeasureT-loop
 μ-loop book₀ s count grade₀ book grade = s .g - grade
 
--- src/sweep.rt:28:17
 cast-count : tie.Need-cast-count Inv-loop μ-loop
 cast-count c = search needs
 
--- src/sweep.rt:30:5
 loop-holds : tie.Need-loop-holds Inv-loop μ-loop
 loop-holds c =
     let d = c .before .before in
     (omega arith, refl, sym (swept-none (d .args .s) (emptied (d .args .s)) (d .args .book .now) (d .pre .0) (λ j h. emptied-size (d .args .s) (d .pre .1) j)))
 
--- src/sweep.rt:31:9
 clear-block-requires : tie.Need-clear-block-requires Inv-loop μ-loop
 clear-block-requires c κs =
     let l = c .before .before .loop in
     let d = c .before .before .before .before .before in
     record { proper = d .pre .1; size = l .inv .1 ∙ d .pre .0; inside = c .before .loop-test .taken }
 
--- src/sweep.rt:32:9
 add-grade : tie.Need-add-grade Inv-loop μ-loop
 add-grade c = search needs
 
--- src/sweep.rt:30:5
 loop-less : tie.Need-loop-less Inv-loop μ-loop
 loop-less c = search needs
 
--- src/sweep.rt:30:5
 loop-again : tie.Need-loop-again Inv-loop μ-loop
 loop-again c =
     let l = c .before .before .before .before .before .loop in
@@ -58,11 +50,9 @@ loop-again c =
           ∙ swept-more s (emptied s) (d .args .book .now) (d .pre .0) (λ j q. emptied-size s (d .pre .1) j) (l .grade) h),
     )
 
--- src/sweep.rt:24:1
 same-length : tie.Need-same-length Inv-loop μ-loop
 same-length c = c .before .loop .inv .1
 
--- src/sweep.rt:24:1
 returns : tie.Need-returns Inv-loop μ-loop
 returns c =
     let l = c .before .loop in

@@ -2,9 +2,10 @@
 -- Rests on the soundness of one level being kept.
 use mathlib.Core.Bool.{Bool, true, false, cond}
 use mathlib.Core.Path.{_≡_, refl, sym, ap, _∙_}
+use mathlib.Core.Logic.{⊎-elim}
 use mathlib.Core.List.{List, [], _∷_}
 use Prim.Native.Nat.{ℕ, zero, suc, _+_, _*_, _%_, _^_, _≤_, _<_}
-use native.Mathlib.Nat.{mul-le-mul-right, mod-lt, zero-add, add-zero, add-suc, suc-add}
+use native.Mathlib.Nat.{mul-le-mul-right, mod-lt, add-zero, add-suc, suc-add}
 use native.Mathlib.Omega.{arith}
 use lib.Dec.{eqb}
 use lib.Pow.{pow-pos}
@@ -15,7 +16,7 @@ use Rattle.model.specs.Level.{Level, insert, emptyLevel}
 use Rattle.model.specs.Block.{Half, Block, upFrom, emptyHalf, insertAll, deliverHalf, deliver, halfOf, withHalf, interval, offsetOf, advance, empties, serving}
 use Rattle.model.specs.Words.{encodeBlock}
 use Rattle.model.specs.Sound.{soundBlock}
-use Rattle.laws.specs.Cases.{by-test, by-le}
+use Rattle.laws.specs.Cases.{by-test, by-le, lt-or-ge}
 use Rattle.laws.specs.SoundFacts.{SoundLevel, sound-tests}
 use Rattle.laws.specs.Kept.{empty-sound, insert-sound, sound-serves}
 use Rattle.laws.specs.BlockWords.{HalfSound, sound-sized, length-encodeBlock, soundBlock-encode}
@@ -29,6 +30,15 @@ half-level s h y i low = sound-tests (s .k) (s .n) i (h .total) (y .levelAt i) .
 pub insertAll-upFrom : (n x v : ℕ) (f : ℕ → Level) (i c : ℕ) → insertAll n i x v (upFrom f i c) ≡ upFrom (λ j. insert n j x v (f j)) i c
 insertAll-upFrom n x v f i zero = refl
 insertAll-upFrom n x v f i (suc c) = ap (λ ls. insert n i x v (f i) ∷ ls) (insertAll-upFrom n x v f (suc i) c)
+
+-- l is one of the levels i to last: the first of them that holds offset a
+pub record Served (a : ℕ) (f : ℕ → Level) (i last : ℕ) (l : Level) : Type 0 where
+  pub index : ℕ
+  pub low : i ≤ index
+  pub high : index ≤ last
+  pub same : l ≡ f index
+  pub held : f index .first ≤ a
+  pub finer : (j : ℕ) → i ≤ j → j < index → a < f j .first
 
 module _ (s : Shape) (proper : Proper s) where
   -- an empty half is sound
@@ -83,10 +93,24 @@ module _ (s : Shape) (proper : Proper s) where
 
   -- ---- some level serves
 
-  serving-first : (a : ℕ) (f : ℕ → Level) (d i : ℕ) → f (i + d) .first ≡ 0 → serving a (upFrom f i (suc d)) .first ≤ a
-  serving-first a f zero i whole = by-le (f i .first) a (λ (l : Level). l .first ≤ a) (λ h. h) (λ h. absurd (omega (arith, rw add-zero at whole)))
-  serving-first a f (suc d) i whole =
-      by-le (f i .first) a (λ (l : Level). l .first ≤ a) (λ h. h) (λ h. serving-first a f d (suc i) (rw (add-suc, ← suc-add) at whole))
+  serving-found : (a : ℕ) (f : ℕ → Level) (d i : ℕ) → f (i + d) .first ≡ 0 → Served a f i (i + d) (serving a (upFrom f i (suc d)))
+  serving-found a f zero i whole =
+      by-le (f i .first) a (Served a f i (i + 0))
+      (λ h. record { index = i; low = omega arith; high = omega arith; same = refl; held = h; finer = λ j lo hi. absurd (omega arith) })
+      (λ h. absurd (omega (arith, rw add-zero at whole)))
+  serving-found a f (suc d) i whole =
+      by-le (f i .first) a (Served a f i (i + suc d))
+      (λ h. record { index = i; low = omega arith; high = omega arith; same = refl; held = h; finer = λ j lo hi. absurd (omega arith) })
+      (λ h.
+      let r = serving-found a f d (suc i) (rw (add-suc, ← suc-add) at whole) in
+      record {
+        index = r .index;
+        low = omega (arith, r .low);
+        high = omega (arith, r .high);
+        same = r .same;
+        held = r .held;
+        finer = λ j lo hi. ⊎-elim (λ (l : i < j). r .finer j l hi) (λ (g : j ≤ i). let here : j ≡ i = omega arith in rw here h) (lt-or-ge i j);
+      })
 
   -- the last level of a sound half holds every offset
   pub last-whole : (h : Half) (y : HalfSound s h) → y .levelAt (s .last) .first ≡ 0
@@ -96,6 +120,8 @@ module _ (s : Shape) (proper : Proper s) where
       let product : s .n * 2 ^ s .last ≡ s .n * 2 ^ s .m = ap (λ (z : ℕ). s .n * z) power in
       sound-serves (proper .limits .low-n) (half-level s h y (s .last) (omega arith)) (omega (arith, y .total, pow-pos (s .m)))
 
-  -- so the level that serves an opening holds it
-  pub half-serves : (h : Half) → HalfSound s h → (a : ℕ) → serving a (h .levels) .first ≤ a
-  half-serves h y a = rw (y .levels) (serving-first a (y .levelAt) (s .last) 0 (rw zero-add (last-whole h y)))
+  -- so one of the levels serves each opening: it holds it, and no finer one does
+  pub half-serves : (h : Half) (y : HalfSound s h) (a : ℕ) → Served a (y .levelAt) 0 (s .last) (serving a (h .levels))
+  half-serves h y a =
+      let last : 0 + s .last ≡ s .last = omega arith in
+      rw (y .levels) (rw last at (serving-found a (y .levelAt) (s .last) 0 (rw last (last-whole h y))))

@@ -16,7 +16,7 @@ use Rattle.model.specs.declared.Call.the-variants.{Make, Clock, Delivery, Query
 use Rattle.model.specs.declared.Refusal.{Refusal}
 use Rattle.model.specs.declared.Refusal.the-variants.{Length}
 use Rattle.model.specs.declared.Answer.the-variants.{Done, Sum, Refused}
-use Rattle.model.specs.Block.{upFrom, interval, advance, deliver}
+use Rattle.model.specs.Block.{upFrom, interval, opening, advance, deliver, answer}
 use Rattle.model.specs.Words.{shapeOf, clockOf, blockPart, decodeBlock, encodeBlock, encodeHead, withBlock, join}
 use Rattle.model.specs.Sound.{soundBlock}
 use Rattle.model.specs.Calls.{blockAt, firstOf, refusals, bookView, Outcome, outcomeOf, accept, perform, made, clocked, delivered}
@@ -25,7 +25,7 @@ use Rattle.laws.specs.Proper.{Proper}
 use Rattle.laws.specs.Halves.{total-decode}
 use Rattle.laws.specs.BookWords.{limits-within, soundHead-limits, length-blockPart}
 use Rattle.laws.specs.Parts.{allFrom-elim, upFrom-cong, replicate-upFrom}
-use Rattle.laws.specs.Refusals.{settle-accepted, settle-refused, AcceptedClock, accepted-clock, AcceptedDelivery, accepted-delivery}
+use Rattle.laws.specs.Refusals.{settle-accepted, settle-refused, AcceptedClock, accepted-clock, AcceptedDelivery, accepted-delivery, AcceptedQuery, accepted-query}
 use Rattle.summary.specs.Judge.{firstRefusal, numberOf-pos, Open, open-size, open-proper}
 use Rattle.summary.specs.Sweeps.{InBook, AllSound, emptied, advanced}
 use Rattle.summary.specs.Fill.{Takes}
@@ -146,6 +146,24 @@ module _ (ws : List ℕ) (s : Shape) (grade stamp volume : ℕ) (same : s ≡ sh
   pub delivered-words : withBlock s grade (encodeBlock s (deliver s stamp volume (decodeBlock s (blockPart s grade ws)))) ws ≡ delivered (shapeOf ws) grade stamp volume ws
   unfolding delivered
   delivered-words = rw same
+
+-- ---- question
+
+module _ (ws : List ℕ) (s : Shape) (clock grade window : ℕ) (o : Open ws s clock) (h : firstRefusal ws (Query grade window) ≡ 0) where
+  facts-q : AcceptedQuery (bookView ws) grade window
+  facts-q = accepted-query (bookView ws) grade window h
+
+  pub query-inside : grade < s .g
+  unfolding bookView
+  query-inside = rw (o .same) (facts-q .inside)
+
+  pub query-sound : soundBlock s (blockPart s grade ws) ≡ true
+  unfolding bookView
+  query-sound = rw (o .same) (facts-q .sound)
+
+  pub asked-outcome : outcomeOf (replyOf (Sum (answer s clock (opening clock window) (decodeBlock s (blockPart s grade ws))))) ws ≡ perform ws (Query grade window)
+  unfolding replyOf
+  asked-outcome = rw (o .same, o .now) (sym (accepted-outcome ws (Query grade window) h))
 
 -- ---- the outcomes of accepted calls
 

@@ -99,3 +99,30 @@ pub fn judge_delivery(book: &[u32], grade: u32, stamp: u32, volume: u32) -> Open
         Opened::Refused(r) => Opened::Refused(r),
     }
 }
+
+fn judge_query_in(book: &[u32], s: Shape, clock: u32, grade: u32, window: u32) -> Opened
+    requires { ⌜ Open (now book) s clock ⌝ }
+    ensures { λ r. ⌜ Judges (now (book .entry)) (Call.Query grade window) r ⌝ }
+{
+    let grades = s.g as u32;
+    let widest = scan::power(s.k);
+    if grades <= grade {
+        return Opened::Refused(Refusal::Grade);
+    }
+    if widest < window {
+        return Opened::Refused(Refusal::Window);
+    }
+    if !block_sound(book, s, grade) {
+        return Opened::Refused(Refusal::Block);
+    }
+    Opened::Book { shape: s, clock }
+}
+
+pub fn judge_query(book: &[u32], grade: u32, window: u32) -> Opened
+    ensures { λ r. ⌜ Judges (now (book .entry)) (Call.Query grade window) r ⌝ }
+{
+    match open(book) {
+        Opened::Book { shape, clock } => judge_query_in(book, shape, clock, grade, window),
+        Opened::Refused(r) => Opened::Refused(r),
+    }
+}

@@ -1,4 +1,4 @@
-// The calls on a whole book: make, clock and delivery. Each takes words of any length and content and any numbers; a refused call
+// The calls on a whole book: make, clock, delivery and question. Each takes words of any length and content and any numbers; a refused call
 // leaves every word.
 mod fill;
 mod head;
@@ -11,13 +11,17 @@ use head::Opened;
 use head::write_head;
 use judge::judge_clock;
 use judge::judge_delivery;
+use judge::judge_query;
 use model::Answer;
+use model::Call;
 use model::Refusal;
+use part::block_at;
 use shape::Checked;
 use shape::Shape;
 use sweep::advance_blocks;
 use sweep::clear_blocks;
 ghost use mathlib.Core.Path.{_≡_};
+ghost use Rattle.model.specs.Block.{opening};
 ghost use Rattle.model.specs.Words.{shapeOf};
 ghost use Rattle.model.specs.Reply.{replyOf};
 ghost use Rattle.model.specs.Calls.{outcomeOf, perform};
@@ -83,5 +87,49 @@ pub fn delivery(book: &mut [u32], grade: u32, stamp: u32, volume: u32) -> Answer
     match judge_delivery(&book[..], grade, stamp, volume) {
         Opened::Book { shape, clock: _ } => deliver(book, shape, grade, stamp, volume),
         Opened::Refused(r) => Answer::Refused(r),
+    }
+}
+
+// The first stamp of a window, 0 where the window exceeds the clock.
+fn opening(clock: u32, window: u32) -> u32
+    ensures { λ r. ⌜ r ≡ opening clock window ⌝ }
+{
+    if clock < window {
+        return 0;
+    }
+    clock - window
+}
+
+// An accepted question: its block alone is handed on.
+fn ask(book: &[u32], shape: Shape, clock: u32, grade: u32, window: u32) -> Answer
+    requires { ⌜ Open (now book) shape clock × (firstRefusal (now book) (Call.Query grade window) ≡ 0) ⌝ }
+    ensures { λ r. ⌜ outcomeOf (replyOf r) (now (book .entry)) ≡ perform (now (book .entry)) (Call.Query grade window) ⌝ }
+{
+    let start = opening(clock, window);
+    Answer::Sum(block::sum(block_at(book, shape, grade), shape, clock, start))
+}
+
+pub fn query(book: &[u32], grade: u32, window: u32) -> Answer
+    ensures { λ r. ⌜ outcomeOf (replyOf r) (now (book .entry)) ≡ perform (now (book .entry)) (Call.Query grade window) ⌝ }
+{
+    match judge_query(book, grade, window) {
+        Opened::Book { shape, clock } => ask(book, shape, clock, grade, window),
+        Opened::Refused(r) => Answer::Refused(r),
+    }
+}
+
+// Any call: one step of a run.
+pub fn perform(book: &mut [u32], call: Call) -> Answer
+    ensures { λ r. ⌜ outcomeOf (replyOf r) (now (book .exit)) ≡ perform (now (book .entry)) call ⌝ }
+{
+    match call {
+        Call::Make { k, n, m, g } => make(book, k, n, m, g),
+        Call::Clock { clock: to } => clock(book, to),
+        Call::Delivery {
+            grade,
+            stamp,
+            volume,
+        } => delivery(book, grade, stamp, volume),
+        Call::Query { grade, window } => query(&book[..], grade, window),
     }
 }

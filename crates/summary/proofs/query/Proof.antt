@@ -1,0 +1,38 @@
+-- A refused question answers its number; else the judged book is open.
+use borrow.Author.Needs.{needs}
+use mathlib.Core.Path.{subst}
+use Rattle.model.specs.declared.Call.the-variants.{Query}
+use Rattle.summary.specs.Judge.{Judges, judges-open}
+use Rattle.summary.specs.Outcome.{refused-outcome}
+use Rattle.summary.proofs.query.Statement.{statement}
+use Rattle.summary.proofs.query.Tie as tie
+
+judge-query-requires : tie.Need-judge-query-requires
+judge-query-requires c κs = search needs
+
+enum-known-shape : tie.Need-enum-known-shape
+enum-known-shape c = search needs
+
+ask-requires : tie.Need-ask-requires
+ask-requires c κs =
+    let a = c .before .before .before .before .before .args in
+    let told = c .before .shape .given in
+    let call = Query (a .grade) (a .window) in
+    let j = subst (Judges (a .book .now) call) (told .1) (c .before .before .before .judge-query .ensures) in
+    (judges-open (a .book .now) (told .0 .0) (told .0 .1 .0) call tt j, j .0)
+
+enum-known-r : tie.Need-enum-known-r
+enum-known-r c = search needs
+
+returns : tie.Need-returns
+returns c = search needs
+
+returns-2 : tie.Need-returns-2
+returns-2 c =
+    let a = c .before .before .before .before .before .args in
+    let told = c .before .r .given in
+    let call = Query (a .grade) (a .window) in
+    refused-outcome (a .book .now) call (told .0 .0) (subst (Judges (a .book .now) call) (told .1) (c .before .before .before .judge-query .ensures))
+
+pub query-spec : {M : Type 1} → statement M
+query-spec = tie.close (tie.spec judge-query-requires enum-known-shape ask-requires enum-known-r returns returns-2)

@@ -1,5 +1,5 @@
 -- Digits and texts: how long they are, how they are stored, and that digits mean their number. Assumes nothing.
-use mathlib.Core.Bool.{true, not, cond}
+use mathlib.Core.Bool.{Bool, true, false, not, cond}
 use mathlib.Core.List.{List, [], _∷_, _++_}
 use mathlib.Core.Path.{_≡_, refl, sym, ap, _∙_}
 use Prim.Native.Nat.{ℕ, zero, suc, _+_, _*_, _-_, _/_, _%_, _^_, _≤_, _<_}
@@ -9,6 +9,7 @@ use lib.Dec.{ltb, eqb}
 use borrow.Author.Tests.{lt-ltb, le-ltb, le-leb, ne-eqb}
 use lib.ListN.{length, set, length-append}
 use lib.Seq.{sets, sets-eq}
+use Rattle.shape.specs.Limits.{Reply}
 use Rattle.shape.specs.LimitsLaws.{both}
 use Rattle.model.specs.Reply.{numberOf, replyOf}
 use Rattle.model.specs.declared.Answer.the-variants.{Refused}
@@ -16,7 +17,7 @@ use Rattle.model.specs.declared.Refusal.{Refusal}
 use Rattle.model.specs.declared.Refusal.the-variants.{Shape, Length, Grade, Volume, Window, Limit, Head, Ahead, Late, Back, Block, Full}
 use Rattle.laws.specs.Cases.{by-lt, and-true}
 use Rattle.lines.specs.Grammar.{all, isDigit, valueFrom, valueOf, isDecimal}
-use Rattle.lines.specs.Text.{digitsOf, decimal, numbered, refusedWord, textOf, written, put}
+use Rattle.lines.specs.Text.{digitsOf, decimal, numbered, sumWord, refusedWord, acceptedText, textOf, unreadText, written, put}
 
 -- a text and another after it
 pub sets-append : (s t l : List ℕ) (i : ℕ) → sets l i (s ++ t) ≡ sets (sets l i s) (i + length s) t
@@ -80,6 +81,24 @@ module _ (word : List ℕ) (x : ℕ) where
 
   pub numbered-fits : length word ≤ 8 → length (numbered word x) ≤ 32
   numbered-fits h = omega (arith, numbered-length, digits-most 20 x)
+
+-- every text is short
+pub text-short : (r : Reply) → length (textOf r) ≤ 32
+unfolding textOf
+text-short r = go (eqb (r .number) 0) (r .values)
+  where
+    go : (a : Bool) (values : List ℕ) → length (cond a (acceptedText values) (numbered refusedWord (r .number))) ≤ 32
+    go true [] = omega arith
+    go true (sum ∷ more) = numbered-fits sumWord sum (omega arith)
+    go false values = numbered-fits refusedWord (r .number) (omega arith)
+
+pub unread-short : length unreadText ≤ 32
+unfolding unreadText
+unread-short = omega arith
+
+pub written-short : (text out : List ℕ) {r : ℕ} → r ≡ written text out → length text ≤ 32 → r ≤ 32
+unfolding written
+written-short text out e h = rw e (by-lt (length out) 32 (λ (n : ℕ). n ≤ 32) (λ short. omega arith) (λ room. h))
 
 -- every refusal has a number
 pub refused-text : (why : Refusal) → textOf (replyOf (Refused why)) ≡ numbered refusedWord (numberOf why)

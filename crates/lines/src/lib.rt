@@ -24,7 +24,7 @@ pub enum Parsed {
 }
 
 // The numbers that stand before the current one.
-enum Kept {
+pub enum Kept {
     None,
     One(u32),
     Two(u32, u32),
@@ -32,7 +32,7 @@ enum Kept {
 }
 
 // How far a line is read.
-enum State {
+pub enum State {
     // No byte.
     Start,
     // One byte, which may be a call's letter.

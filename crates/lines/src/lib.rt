@@ -253,24 +253,10 @@ fn line_of(word: &[u8], x: u64, out: &mut [u8]) -> usize
     end + 1
 }
 
-// Document 01's number of a refusal.
 fn number(why: Refusal) -> u64
     ensures { λ r. ⌜ r ≡ numberOf why ⌝ }
 {
-    match why {
-        Refusal::Shape => 1,
-        Refusal::Length => 2,
-        Refusal::Grade => 3,
-        Refusal::Volume => 4,
-        Refusal::Window => 5,
-        Refusal::Limit => 6,
-        Refusal::Head => 7,
-        Refusal::Ahead => 8,
-        Refusal::Late => 9,
-        Refusal::Back => 10,
-        Refusal::Block => 11,
-        Refusal::Full => 12,
-    }
+    codes::number(why) as u64
 }
 
 // Writes the line of an answer to the front of the buffer, and gives how long it is: 0 and no byte where the buffer is shorter than

@@ -1,0 +1,23 @@
+-- The number and the words are those of the call's outcome.
+use mathlib.Core.Path.{ap}
+use Rattle.capi.specs.Told.{codeOf}
+use borrow.Author.Needs.{needs}
+use Rattle.capi.proofs.litres_delivery.Statement.{statement}
+use Rattle.capi.proofs.litres_delivery.Tie as tie
+
+delivery-requires : tie.Need-delivery-requires
+delivery-requires c κs = search needs
+
+code-requires : tie.Need-code-requires
+code-requires c κs = search needs
+
+same-length : tie.Need-same-length
+same-length c = search needs
+
+returns : tie.Need-returns
+returns c =
+    let done = c .before .before .before .delivery in
+    rw (c .code .ensures) (ap codeOf (done .ensures))
+
+pub litres-delivery-spec : {M : Type 1} → statement M
+litres-delivery-spec = tie.close (tie.spec delivery-requires code-requires same-length returns)

@@ -20,8 +20,9 @@ const HEIGHT: f64 = 170.0;
 const EXACT_ROW: f64 = 184.0;
 const PANEL: f64 = 194.0;
 
+/// Smaller sums, which are all exact in practice, stand at the left end.
 const SUMS: Scale = Scale {
-    low: 0.0,
+    low: 2.0,
     high: 7.5,
     length: WIDTH,
 };
@@ -30,11 +31,13 @@ const ERRORS: Scale = Scale {
     high: -0.5,
     length: HEIGHT,
 };
-const SUM_MARKS: [(f64, &str); 4] = [
-    (1.0, "1"),
-    (1e2, "100"),
-    (1e4, "10,000"),
-    (1e6, "1,000,000"),
+const SUM_MARKS: [(f64, &str); 6] = [
+    (1e2, "≤ 10²"),
+    (1e3, "10³"),
+    (1e4, "10⁴"),
+    (1e5, "10⁵"),
+    (1e6, "10⁶"),
+    (1e7, "10⁷"),
 ];
 const ERROR_MARKS: [(f64, &str); 6] = [
     (1e-1, "10 %"),
@@ -71,6 +74,9 @@ pub fn svg(observed: &[(Order, Observed)]) -> String {
         let y = ORIGIN.1 + (number / COLUMNS) as f64 * STRIDE.1;
         let _ = writeln!(svg, "<g transform=\"translate({x} {y})\">");
         svg.push_str(&axes());
+        if number % COLUMNS == 0 {
+            svg.push_str(&error_title());
+        }
         svg.push_str(&panel(order, seen));
         svg.push_str("</g>\n");
     }
@@ -90,7 +96,7 @@ fn heading() -> String {
 
 fn legend() -> String {
     let (part, whole) = BOUND;
-    let bound = percent(part as f64 / whole as f64);
+    let bound = 100.0 * part as f64 / whole as f64;
     let dot = |x: u32, colour: &str, text: &str| {
         format!(
             "<circle cx=\"{x}\" cy=\"79\" r=\"4\" fill=\"{colour}\"/>\
@@ -104,7 +110,7 @@ fn legend() -> String {
         legend,
         "<path d=\"M272 79h34\" stroke=\"{BOUND_COLOUR}\" stroke-width=\"2\" \
          stroke-dasharray=\"7 4\"/><text x=\"314\" y=\"83\" font-size=\"13\">proved bound \
-         2(k+1)/(n-k-1) = {bound}</text>\
+         2(k+1)/(n-k-1) = {bound} %</text>\
          <rect x=\"582\" y=\"73\" width=\"30\" height=\"12\" fill=\"#eee\"/>\
          <text x=\"620\" y=\"83\" font-size=\"13\">exact answers</text>\
          <circle cx=\"738\" cy=\"79\" r=\"5\" fill=\"none\" stroke=\"#222\" stroke-width=\"1.5\"/>\
@@ -149,14 +155,20 @@ fn axes() -> String {
     let _ = writeln!(
         axes,
         "<rect width=\"{WIDTH}\" height=\"{PANEL}\" fill=\"none\" stroke=\"#888\"/>\
-         <text x=\"{:.1}\" y=\"{:.1}\" text-anchor=\"middle\">true sum, decilitres</text>\
-         <text transform=\"translate(-62 {:.1}) rotate(-90)\" text-anchor=\"middle\">relative \
-         error</text>",
+         <text x=\"{:.1}\" y=\"{:.1}\" text-anchor=\"middle\">true sum, decilitres</text>",
         WIDTH / 2.0,
-        PANEL + 30.0,
-        HEIGHT / 2.0
+        PANEL + 30.0
     );
     axes
+}
+
+/// Beside the first panel of a row; the others have the same scale.
+fn error_title() -> String {
+    let middle = HEIGHT / 2.0;
+    format!(
+        "<text transform=\"translate(-62 {middle:.1}) rotate(-90)\" \
+         text-anchor=\"middle\">relative error</text>\n"
+    )
 }
 
 fn panel(order: &Order, observed: &Observed) -> String {

@@ -186,7 +186,7 @@ impl Caller<'_> {
             _ => 1 + random.below(room.clamp(1, 8)),
         };
         let limit = Shape::VOLUME_MAX.into();
-        let quick = quick_volume(shape) * if random.one_in(100) { 20 } else { 1 };
+        let quick = quick_volume(shape) * if random.one_in(4) { 20 } else { 1 };
         // Refused volumes cost nothing, accepted ones by the decilitre.
         if drawn > room || drawn > limit {
             drawn.min(u32::MAX.into()) as u32

@@ -52,15 +52,11 @@ deliverHalf s x v h = record { total = h .total + v; levels = insertAll (s .n) 0
 unfoldable pub deliver : Shape → ℕ → ℕ → Block → Block  -- a delivery goes into the half of its stamp's interval
 deliver s stamp v b = let j = interval s stamp in withHalf j (deliverHalf s (offsetOf s stamp) v (halfOf j b)) b
 
--- whether the half that serves interval j is emptied as the clock goes from one interval to another: none within an interval,
--- that of the next interval on entering it, both where one or more are skipped
-abbrev pub empties : ℕ → ℕ → ℕ → Bool
+abbrev pub empties : ℕ → ℕ → ℕ → Bool  -- the clock empties the half of interval j: none in the same interval, that of the next one, both past it
 empties from to j = cond (eqb to from) false (cond (eqb to (from + 1)) (eqb (j % 2) (to % 2)) true)
 
 unfoldable pub advance : Shape → ℕ → ℕ → Block → Block
-advance s old new b =
-    let gone = empties (interval s old) (interval s new) in
-    record { even = cond (gone 0) (emptyHalf s) (b .even); odd = cond (gone 1) (emptyHalf s) (b .odd) }
+advance s old new b = let gone = empties (interval s old) (interval s new) in record { even = cond (gone 0) (emptyHalf s) (b .even); odd = cond (gone 1) (emptyHalf s) (b .odd) }
 
 abbrev pub sumFrom : ℕ → List Bucket → ℕ  -- the weights of the buckets whose offset is at least a
 sumFrom a [] = 0
@@ -73,6 +69,5 @@ serving a (l ∷ ls) = cond (leb (l .first) a) l (serving a ls)
 unfoldable pub answer : Shape → ℕ → ℕ → Block → ℕ  -- the sum of a window that opens at stamp `start`
 answer s clock start b =
     let from = interval s start in
-    let now = interval s clock in
     let sum = sumFrom (offsetOf s start) (serving (offsetOf s start) (halfOf from b .levels) .buckets) in
-    cond (eqb from now) sum (sum + halfOf now b .total)
+    cond (eqb from (interval s clock)) sum (sum + halfOf (interval s clock) b .total)

@@ -24,11 +24,8 @@ pub record Outcome (A : Type 0) : Type 0 where  -- what a call answers, and what
 abbrev pub outcomeOf : {A : Type 0} → Reply → A → Outcome A
 outcomeOf reply left = record { reply = reply; left = left }
 
--- refused under the first number whose condition holds, with nothing changed, or accepted
-abbrev pub settle : {A : Type 0} → List (Bool × ℕ) → A → Outcome A → Outcome A
-settle refusals before done =
-    let number = firstOf refusals in
-    cond (eqb number 0) done (outcomeOf (refused number) before)
+abbrev pub settle : {A : Type 0} → List (Bool × ℕ) → A → Outcome A → Outcome A  -- a refused call changes nothing
+settle refusals before done = let number = firstOf refusals in cond (eqb number 0) done (outcomeOf (refused number) before)
 
 pub record View : Type 0 where  -- what the refusals look at: the book gives it from its words, the ledger from its entries
   pub lent : ℕ
@@ -69,8 +66,7 @@ unfoldable pub made : Shape → List ℕ  -- the head with clock 0, and all halv
 made s = encodeHead s 0 ++ join (replicate (s .g) (encodeBlock s (record { even = emptyHalf s; odd = emptyHalf s })))
 
 unfoldable pub clocked : Shape → ℕ → List ℕ → List ℕ  -- the head with the new clock, and in every grade the halves emptied that the clock empties
-clocked s clock ws =
-    encodeHead s clock ++ join (upFrom (λ grade. encodeBlock s (advance s (clockOf ws) clock (blockAt ws grade))) 0 (s .g))
+clocked s clock ws = encodeHead s clock ++ join (upFrom (λ grade. encodeBlock s (advance s (clockOf ws) clock (blockAt ws grade))) 0 (s .g))
 
 unfoldable pub delivered : Shape → ℕ → ℕ → ℕ → List ℕ → List ℕ  -- the block of the grade with the delivery, and every other word as it was
 delivered s grade stamp volume ws = withBlock s grade (encodeBlock s (deliver s stamp volume (blockAt ws grade))) ws
@@ -79,8 +75,7 @@ abbrev pub accept : List ℕ → Call → Outcome (List ℕ)  -- an accepted cal
 accept ws (Make k n m g) = outcomeOf (accepted []) (made (shaped k n m g))
 accept ws (Clock clock) = outcomeOf (accepted []) (clocked (shapeOf ws) clock ws)
 accept ws (Delivery grade stamp volume) = outcomeOf (accepted []) (delivered (shapeOf ws) grade stamp volume ws)
-accept ws (Query grade window) =
-    outcomeOf (accepted (answer (shapeOf ws) (clockOf ws) (opening (clockOf ws) window) (blockAt ws grade) ∷ [])) ws
+accept ws (Query grade window) = outcomeOf (accepted (answer (shapeOf ws) (clockOf ws) (opening (clockOf ws) window) (blockAt ws grade) ∷ [])) ws
 
 unfoldable pub perform : List ℕ → Call → Outcome (List ℕ)  -- a call on words of any length and content
 perform ws call = settle (refusals (bookView ws) call) ws (accept ws call)

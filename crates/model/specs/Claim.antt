@@ -28,8 +28,7 @@ abbrev pub Each : {A : Type 0} → (A → Type 0) → List A → Type 0
 Each P [] = Unit {0}
 Each P (x ∷ xs) = P x × Each P xs
 
--- what is said of a make, of a clock, of a delivery by its stamp and of a question by its window
-abbrev pub ByCall : Type 0 → Type 0 → (ℕ → Type 0) → (ℕ → Type 0) → Call → Type 0
+abbrev pub ByCall : Type 0 → Type 0 → (ℕ → Type 0) → (ℕ → Type 0) → Call → Type 0  -- of a delivery by its stamp, of a question by its window
 ByCall make clock delivery query (Make k n m g) = make
 ByCall make clock delivery query (Clock to) = clock
 ByCall make clock delivery query (Delivery grade stamp volume) = delivery stamp
@@ -45,29 +44,24 @@ pub record Admits (n k book exact : ℕ) : Type 0 where  -- |book - exact| × (n
 abbrev pub Bound : Turn → Type 0  -- an answered question keeps the bound where n is above k + 1, by the shape then in force
 Bound t =
     let s = t .ledger .shape in
-    let admitted = Admits (s .n) (s .k) (getD (t .book .values) 0 0) (getD (t .exact .values) 0 0) in
-    OfQuery (λ window. t .book .number ≡ 0 → s .k + 1 < s .n → admitted) (t .call)
+    OfQuery (λ window. t .book .number ≡ 0 → s .k + 1 < s .n → Admits (s .n) (s .k) (getD (t .book .values) 0 0) (getD (t .exact .values) 0 0)) (t .call)
 
 abbrev pub Span : (Turn → Type 0) → List Turn → Type 0  -- P holds of every turn up to the next accepted make, with which the span ends
 Span P [] = Unit {0}
-Span P (t ∷ ts) =
-    let here = P t × Span P ts in
-    ByCall ((t .book .number ≡ 0 → ⊥) → here) here (λ stamp. here) (λ window. here) (t .call)
+Span P (t ∷ ts) = let here = P t × Span P ts in ByCall ((t .book .number ≡ 0 → ⊥) → here) here (λ stamp. here) (λ window. here) (t .call)
 
 abbrev pub Outside : ℕ → Turn → Type 0  -- a question with a window of at most 2^k, of any grade, answered or not, does not cover the stamp
 Outside stamp t = OfQuery (λ window. window ≤ 2 ^ t .ledger .shape .k → covers (t .ledger .clock) window stamp ≡ false) (t .call)
 
 abbrev pub Missed : List Turn → Type 0  -- each delivery refused as late lies in no such window asked for later in its span
 Missed [] = Unit {0}
-Missed (t ∷ ts) =
-    ByCall (Unit {0}) (Unit {0}) (λ stamp. t .book .number ≡ 9 → Span (Outside stamp) ts) (λ window. Unit {0}) (t .call) × Missed ts
+Missed (t ∷ ts) = ByCall (Unit {0}) (Unit {0}) (λ stamp. t .book .number ≡ 9 → Span (Outside stamp) ts) (λ window. Unit {0}) (t .call) × Missed ts
 
 pub record Kept (turns : List Turn) : Type 0 where
   pub same : Each (λ t. t .book .number ≡ t .exact .number) turns  -- accepted alike, refused under the same numbers
   pub bound : Each Bound turns
   pub missed : Missed turns
 
--- demand 3: for every list of calls, from the words that an accepted make left on any words, and the ledger from that make
-unfoldable pub Claim : Type 0
+unfoldable pub Claim : Type 0  -- demand 3: for every list of calls, from the words that an accepted make left on any words, and its ledger
 Claim = (before : List ℕ) (k n m g : ℕ) → perform before (Make k n m g) .reply .number ≡ 0 → (calls : List Call)
     → Kept (run (perform before (Make k n m g) .left) (ledgerOf (shaped k n m g) 0 []) calls)

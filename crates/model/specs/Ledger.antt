@@ -47,8 +47,7 @@ abbrev pub note : Ledger → Call → Outcome Ledger  -- an accepted call
 note l (Make k n m g) = outcomeOf (accepted []) (ledgerOf (shaped k n m g) 0 [])
 note l (Clock clock) = outcomeOf (accepted []) (ledgerOf (l .shape) clock (l .entries))
 note l (Delivery grade stamp volume) =
-    let entry : Entry = record { grade = grade; stamp = stamp; volume = volume } in
-    outcomeOf (accepted []) (ledgerOf (l .shape) (l .clock) (entry ∷ l .entries))
+    outcomeOf (accepted []) (ledgerOf (l .shape) (l .clock) (record { grade = grade; stamp = stamp; volume = volume } ∷ l .entries))
 note l (Query grade window) = outcomeOf (accepted (volumeOf (ofWindow (l .clock) grade window) (l .entries) ∷ [])) l
 
 unfoldable pub enter : ℕ → Ledger → Call → Outcome Ledger  -- a call that is lent so many words

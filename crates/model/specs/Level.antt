@@ -30,8 +30,7 @@ put x (b ∷ bs) = cond (ltb x (b .offset)) (bucketOf x 1 1 ∷ b ∷ bs) (cond 
 abbrev pub holds : Bucket → ℕ → Bool  -- the bucket covers offset x
 holds b x = leb (b .offset) x && ltb x (b .offset + b .width)
 
--- a bucket of level i that has just gained: with weight 2^(i+1) and length above 1 it becomes two halves of weight 2^i each
-abbrev pub split : ℕ → Bucket → List Bucket
+abbrev pub split : ℕ → Bucket → List Bucket  -- at level i, having gained: of weight 2^(i+1) and length above 1 it becomes two halves of weight 2^i
 split i b =
     let half = b .width / 2 in
     cond (eqb (b .weight) (2 ^ suc i) && ltb 1 (b .width)) (bucketOf (b .offset) half (2 ^ i) ∷ bucketOf (b .offset + half) half (2 ^ i) ∷ []) (b ∷ [])
@@ -44,8 +43,7 @@ abbrev pub grow : ℕ → ℕ → List Bucket → List Bucket
 grow zero x bs = put x bs
 grow (suc j) x bs = add (suc j) x bs
 
--- F once bucket b is given up and `rest` stays: at level 0 its offset + 1, at the others the next one's offset
-abbrev pub firstAfter : ℕ → Bucket → List Bucket → ℕ
+abbrev pub firstAfter : ℕ → Bucket → List Bucket → ℕ  -- F once a bucket is given up: at level 0 its offset + 1, at the others the next one's offset
 firstAfter zero b rest = b .offset + 1
 firstAfter (suc j) b [] = b .offset + b .width
 firstAfter (suc j) b (next ∷ rest) = next .offset

@@ -34,8 +34,7 @@ rising k a [] = true
 rising k a (b ∷ bs) =
     leb a (b .offset) && (ltb (b .offset) (2 ^ k) && (eqb (b .width) 1 && (leb 1 (b .weight) && rising k (b .offset + 1) bs)))
 
--- a bucket of level i from 1 on; `many` says that there are two or more. A length above 2^k could not end at 2^k
-abbrev pub soundBucket : ℕ → ℕ → Bool → ℕ → Bucket → Bool
+abbrev pub soundBucket : ℕ → ℕ → Bool → ℕ → Bucket → Bool  -- of level i from 1 on; `many`: there are two or more
 soundBucket k i many start b =
     eqb (b .offset) start && (isPower k (b .width) && (eqb (b .offset % b .width) 0
     && (implies (ltb 1 (b .width)) (ltb (b .weight) (2 ^ suc i)) && implies many (leb (2 ^ i) (b .weight)))))
@@ -57,9 +56,7 @@ soundLevel s i total ws =
     && (implies (ltb 0 first) (eqb count (s .n)) && soundBuckets (s .k) i first bs))))
 
 unfoldable pub soundHalf : Shape → ℕ → List ℕ → Bool
-soundHalf s parity ws =
-    let total = getD ws parity 0 in
-    leb total (2 ^ s .m) && allFrom (λ i. soundLevel s i total (levelPart s parity i ws)) 0 (suc (s .last))
+soundHalf s parity ws = leb (getD ws parity 0) (2 ^ s .m) && allFrom (λ i. soundLevel s i (getD ws parity 0) (levelPart s parity i ws)) 0 (suc (s .last))
 
 unfoldable pub soundBlock : Shape → List ℕ → Bool
 soundBlock s ws = soundHalf s 0 ws && soundHalf s 1 ws

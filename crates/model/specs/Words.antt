@@ -22,9 +22,7 @@ abbrev pub levelPart : Shape → ℕ → ℕ → List ℕ → List ℕ  -- the w
 levelPart s parity i ws = take (levelWords s) (drop (levelStart s parity i) ws)
 
 unfoldable pub decodeHalf : Shape → ℕ → List ℕ → Half
-decodeHalf s parity ws =
-    let levels = upFrom (λ i. decodeLevel (levelPart s parity i ws)) 0 (suc (s .last)) in
-    record { total = getD ws parity 0; levels = levels }
+decodeHalf s parity ws = record { total = getD ws parity 0; levels = upFrom (λ i. decodeLevel (levelPart s parity i ws)) 0 (suc (s .last)) }
 
 unfoldable pub decodeBlock : Shape → List ℕ → Block
 decodeBlock s ws = record { even = decodeHalf s 0 ws; odd = decodeHalf s 1 ws }
@@ -46,14 +44,10 @@ abbrev pub slotWords : Bucket → List ℕ
 slotWords b = b .offset ∷ b .width ∷ b .weight ∷ []
 
 unfoldable pub encodeLevel : ℕ → Level → List ℕ  -- unused slots are zero
-encodeLevel n l =
-    let count = length (l .buckets) in
-    count ∷ l .first ∷ (join (map slotWords (l .buckets)) ++ replicate (3 * (n - count)) 0)
+encodeLevel n l = length (l .buckets) ∷ l .first ∷ (join (map slotWords (l .buckets)) ++ replicate (3 * (n - length (l .buckets))) 0)
 
 unfoldable pub encodeBlock : Shape → Block → List ℕ  -- a block is the two totals, the even half's levels, then the odd half's
-encodeBlock s b =
-    let levels : Half → List ℕ = λ h. join (map (encodeLevel (s .n)) (h .levels)) in
-    b .even .total ∷ b .odd .total ∷ (levels (b .even) ++ levels (b .odd))
+encodeBlock s b = let levels : Half → List ℕ = λ h. join (map (encodeLevel (s .n)) (h .levels)) in b .even .total ∷ b .odd .total ∷ (levels (b .even) ++ levels (b .odd))
 
 abbrev pub encodeHead : Shape → ℕ → List ℕ
 encodeHead s clock = s .k ∷ s .n ∷ s .m ∷ s .g ∷ clock ∷ replicate 3 0

@@ -1,12 +1,12 @@
 -- What it tells that bits joined, or bits in common, are none. Assumes nothing.
 use mathlib.Core.Bool.{_&&_}
-use mathlib.Core.Path.{_≡_, refl, sym, ap, _∙_}
+use mathlib.Core.Path.{_≡_}
 use mathlib.Core.Logic.{⊎-elim}
-use Prim.Native.Nat.{ℕ, zero, suc, _+_, _-_, _*_, _/_, _%_, _^_, _≤_, _<_}
-use native.Mathlib.Nat.{pow-suc, mul-mod-left}
+use Prim.Native.Nat.{ℕ, suc, _-_, _*_, _/_, _%_, _^_, _≤_, _<_}
+use native.Mathlib.Nat.{pow-suc}
 use native.Mathlib.Omega.{arith}
 use lib.Arith.{bin-ind}
-use lib.Bits.{bitAnd, bitOr, bitXor, and-step, and-le-l, and-le-r, and-self, and-mask, or-add-and, xor-add-and, xor-self}
+use lib.Bits.{bitAnd, bitOr, bitXor, and-step, and-le-l, and-le-r, and-self, or-add-and, xor-add-and, xor-self}
 use lib.Dec.{eqb}
 use Rattle.laws.specs.Cases.{lt-or-ge}
 use Rattle.laws.specs.Reflect.{tests-same, tests-equal, eqb-tests, and-tests}

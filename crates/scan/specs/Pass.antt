@@ -62,9 +62,6 @@ seenLevel (suc j) first bs = seeAll (seeBucket (leastOf (length bs) (suc j))) (u
 unfoldable pub weightSeen : Seen → ℕ
 weightSeen t = 65536 * t .high + (t .low + (4294967296 - 65536 * t .high % 4294967296)) % 4294967296
 
-abbrev pub passes : ℕ → ℕ → Seen → Bool
-passes k i t = eqb (t .faults) 0 && (ltb (t .reach) (2 ^ k) && (ltb (t .heavy) (2 ^ suc i) && eqb (t .short) 0))
-
 unfoldable pub soundSeen : ℕ → ℕ → ℕ → Seen → Bool
 soundSeen k i first t = ltb first (2 ^ k) && (eqb (t .faults) 0 && (ltb (t .reach) (2 ^ k) && (ltb (t .heavy) (2 ^ suc i)
     && (eqb (t .short) 0 && implies (ltb 0 i) (eqb (t .end) (2 ^ k))))))

@@ -1,16 +1,14 @@
 -- A pass over the buckets of a level finds just what soundness asks of them, and their weight. Assumes nothing.
-use mathlib.Core.Bool.{Bool, true, false, cond}
 use mathlib.Core.List.{List, [], _∷_}
 use mathlib.Core.Logic.{⊎-elim}
-use mathlib.Core.Path.{_≡_, refl, sym, ap, _∙_, subst}
+use mathlib.Core.Path.{_≡_, refl, sym, ap, _∙_}
 use Prim.Native.Nat.{ℕ, zero, suc, _+_, _-_, _*_, _/_, _%_, _^_, _≤_, _<_}
-use native.Mathlib.Nat.{div-add-mod', mul-mod-left, mod-eq-of-lt, pow-suc}
+use native.Mathlib.Nat.{div-add-mod', mul-mod-left, mod-eq-of-lt}
 use native.Mathlib.Omega.{arith}
-use lib.Bits.{bitAnd, bitOr, bitXor, and-mask, or-lt}
-use lib.Dec.{leb, ltb, eqb}
+use lib.Bits.{bitAnd, bitXor, and-mask, or-lt}
 use lib.ListN.{length}
 use lib.Pow.{pow-pos, pow-mono, pow-lt}
-use borrow.Author.Tests.{lt-ltb, le-ltb, le-leb, lt-leb, eq-eqb, ne-eqb}
+use borrow.Author.Tests.{le-ltb, le-leb, ne-eqb}
 use Rattle.model.specs.Level.{Bucket}
 use Rattle.model.specs.Sound.{weightOf, soundBuckets}
 use Rattle.laws.specs.Cases.{lt-or-ge, by-lt, by-le, by-eq}

@@ -3,7 +3,7 @@ use shape::Shape;
 ghost use mathlib.Core.Path.{_≡_};
 ghost use mathlib.Core.Bool.{cond, _&&_};
 ghost use Prim.Native.Nat.{_+_, _*_, _^_, _<_, _≤_};
-ghost use lib.Dec.{leb, ltb};
+ghost use lib.Dec.{leb};
 ghost use lib.ListN.{length, getD, drop};
 ghost use Rattle.shape.specs.Layout.{levelWords};
 ghost use Rattle.model.specs.Words.{slot, slots, decodeLevel};
@@ -213,10 +213,10 @@ fn see_buckets(level: &[u32], count: usize, least: u32) -> Seen
     ensures { λ r. ⌜ r ≡ seeAll (seeBucket least) (unseen (getD (now (level .entry)) 1 0)) (slots (now (level .entry)) 0 count) ⌝ }
 {
     let mut t = start(level[1]);
-    let mut j: usize = 0;
-    while j < count {
-        t = see_bucket(t, slot_at(level, j), least);
-        j += 1;
+    let mut at: usize = 0;
+    while at < count {
+        t = see_bucket(t, slot_at(level, at), least);
+        at += 1;
     }
     t
 }

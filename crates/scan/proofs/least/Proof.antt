@@ -1,5 +1,5 @@
+-- The two arms are the two cases of the test that the definition makes.
 use borrow.Author.Tests.{le-leb, lt-leb}
-use native.Mathlib.Omega.{arith}
 use borrow.Author.Needs.{needs}
 use Rattle.scan.proofs.least.Statement.{statement}
 use Rattle.scan.proofs.least.Tie as tie

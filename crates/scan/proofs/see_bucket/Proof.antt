@@ -1,8 +1,9 @@
+-- The code computes the definition field by field; a weight's upper half is below 2 ^ 16.
 use Prim.Native.Nat.{_^_, _<_}
-use Rattle.scan.specs.Pass.{seeBucket}
-use Rattle.scan.specs.PassLaws.{less-is}
 use native.Mathlib.Omega.{arith}
 use borrow.Author.Needs.{needs}
+use Rattle.scan.specs.Pass.{seeBucket}
+use Rattle.scan.specs.PassLaws.{less-is}
 use Rattle.scan.proofs.see_bucket.Statement.{statement}
 use Rattle.scan.proofs.see_bucket.Tie as tie
 

@@ -1,6 +1,7 @@
-use Rattle.scan.specs.Pass.{seeSingle}
+-- The code computes the definition field by field; a weight's upper half is below 2 ^ 16.
 use native.Mathlib.Omega.{arith}
 use borrow.Author.Needs.{needs}
+use Rattle.scan.specs.Pass.{seeSingle}
 use Rattle.scan.proofs.see_single.Statement.{statement}
 use Rattle.scan.proofs.see_single.Tie as tie
 

@@ -46,7 +46,7 @@ loop-again c =
     let r = c .before in
     let l = r .before .before in
     let a = l .before .before .before .before .args in
-    let read = slots-read (a .level .now) (l .loop .j) (a .count) (r .slot-at .result) (r .slot-at .ensures) (r .before .loop-test .taken) in
+    let read = slots-read (a .level .now) (l .loop .j) (a .count) (r .slot-at .result) (r .slot-at .ensures) (omega arith) in
     let e = c .see-single .ensures in
     (omega arith, omega (arith, e .1), omega (arith, e .2), rw (e .0) (rw read at (l .loop .inv .3)))
 
@@ -54,7 +54,7 @@ returns : tie.Need-returns Inv-loop μ-loop
 returns c =
     let l = c .before in
     let a = l .before .before .before .before .args in
-    rw (slots-none (a .level .now) (l .loop .j) (a .count) (c .loop-test .left)) at (l .loop .inv .3)
+    rw (slots-none (a .level .now) (l .loop .j) (a .count) (omega arith)) at (l .loop .inv .3)
 
 pub see-singles-spec : {M : Type 1} → statement M
 see-singles-spec =

@@ -1,6 +1,5 @@
+-- The two arms are the two cases of the test that the definition makes.
 use borrow.Author.Tests.{eq-eqb, ne-eqb}
-use native.Mathlib.Omega.{arith}
-use borrow.Author.Needs.{needs}
 use Rattle.scan.proofs.shared.Statement.{statement}
 use Rattle.scan.proofs.shared.Tie as tie
 

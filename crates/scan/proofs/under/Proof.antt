@@ -1,6 +1,6 @@
-use borrow.Author.Tests.{lt-ltb, le-ltb}
+-- The two arms are the two cases of the test that the definition makes.
 use native.Mathlib.Omega.{arith}
-use borrow.Author.Needs.{needs}
+use borrow.Author.Tests.{lt-ltb, le-ltb}
 use Rattle.scan.proofs.under.Statement.{statement}
 use Rattle.scan.proofs.under.Tie as tie
 

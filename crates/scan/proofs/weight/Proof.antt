@@ -1,5 +1,4 @@
 -- The code computes the definition, in words that its sums do not overflow.
-use native.Mathlib.Omega.{arith}
 use borrow.Author.Needs.{needs}
 use Rattle.scan.specs.Pass.{weightSeen}
 use Rattle.scan.proofs.weight.Statement.{statement}

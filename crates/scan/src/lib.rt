@@ -91,7 +91,7 @@ pub fn sum_from(level: &[u32], a: u32) -> u64
     sum
 }
 
-// Whether all words from `from` on are zero. The bits of all of them are collected, and tested once.
+// Whether all words from `from` on are zero: their bits are collected, and tested once.
 fn is_zero(level: &[u32], from: usize) -> bool
     ensures { λ r. ⌜ r ≡ zeros (drop from (now (level .entry))) ⌝ }
 {
@@ -123,17 +123,26 @@ pub fn power(k: u8) -> u32
     1 << k
 }
 
-// What a pass over buckets has seen. No bucket is left early: each adds to these words, and they are tested once a level.
+// What a pass over the buckets of a level has collected. No fault ends the pass: it is to run without a branch, four slots at a time,
+// so all is in words of 32 bits, and is tested once a level.
 struct Seen {
-    end: u32, // where the next bucket is to start, or the least offset that it may have
-    faults: u32, // bits that must be 0
-    reach: u32, // bits of numbers that must be below 2^k
-    heavy: u32, // bits of weights that must be below 2^(i+1)
-    short: u32, // how many numbers are less than they must be
-    low: u32, // the sum of the weights, up to multiples of 2^32
-    high: u32, // the sum of the weights' upper halves
+    // Where the next bucket is to start, or the least offset that it may have.
+    end: u32,
+    // Bits that must be 0.
+    faults: u32,
+    // The bits of numbers that must be below 2 ^ k.
+    reach: u32,
+    // The bits of weights that must be below 2 ^ (i + 1).
+    heavy: u32,
+    // How many numbers are less than they must be.
+    short: u32,
+    // The sum of the weights, up to a multiple of 2 ^ 32.
+    low: u32,
+    // The sum of the weights' upper halves.
+    high: u32,
 }
 
+// Before the first bucket.
 fn start(first: u32) -> Seen
     ensures { λ r. ⌜ r ≡ unseen first ⌝ }
 {
@@ -178,7 +187,8 @@ fn see_single(t: Seen, b: Slot) -> Seen
     }
 }
 
-// A bucket of a level from 1 on. A power of two has no bit in common with the number before it, nor has a multiple of it.
+// A bucket of a level from 1 on. A power of two has no bit in common with the number before it, nor has a multiple of it. An end that
+// wraps needs more buckets than a level has, where F and each length are within 2 ^ k.
 fn see_bucket(t: Seen, b: Slot, least: u32) -> Seen
     requires { ⌜ (t .short ≤ 2048) × (t .high ≤ 67108864) ⌝ }
     ensures { λ r. ⌜ (r ≡ seeBucket least t (content b)) × (r .short ≤ t .short + 1) × (r .high ≤ t .high + 65535) ⌝ }
@@ -240,7 +250,7 @@ fn see(level: &[u32], count: usize, i: u8) -> Seen
     see_buckets(level, count, least(count, i))
 }
 
-// The sum of the weights. What the lower halves add to that of the upper ones is below 2^32, so its remainder is all of it.
+// The sum of the weights. What the lower halves add is below 2 ^ 32, so its remainder is all of it.
 fn weight(t: Seen) -> u64
     ensures { λ r. ⌜ r ≡ weightSeen t ⌝ }
 {
@@ -248,7 +258,7 @@ fn weight(t: Seen) -> u64
     high + (long(t.low) + (4294967296 - high % 4294967296)) % 4294967296
 }
 
-// Whether buckets of level i of which a pass saw this are sound, where F is `first`.
+// Whether the buckets of level i are sound, of which a pass collected t.
 fn sound_seen(t: Seen, first: u32, k: u8, i: u8) -> bool
     requires { ⌜ (k ≤ 31) × (i ≤ 30) ⌝ }
     ensures { λ r. ⌜ r ≡ soundSeen k i first t ⌝ }
@@ -256,8 +266,8 @@ fn sound_seen(t: Seen, first: u32, k: u8, i: u8) -> bool
     let top = power(k);
     let high = 2 * power(i);
     let ended = implied(0 < i, t.end == top);
-    let few = both(t.heavy < high, both(t.short == 0, ended));
-    both(first < top, both(t.faults == 0, both(t.reach < top, few)))
+    let held = both(t.heavy < high, both(t.short == 0, ended));
+    both(first < top, both(t.faults == 0, both(t.reach < top, held)))
 }
 
 // Whether the words of level i are sound in a half of this total. The words may be any.
@@ -277,8 +287,6 @@ pub fn sound_level(level: &[u32], s: Shape, i: u8, total: u64) -> bool
     let whole = implied(first == 0, weight == total);
     let full = implied(0 < first, count == n);
     let parts = sound_seen(t, first, s.k, i);
-    both(
-        unused,
-        both(weight <= total, both(whole, both(full, parts))),
-    )
+    let rest = both(whole, both(full, parts));
+    both(unused, both(weight <= total, rest))
 }

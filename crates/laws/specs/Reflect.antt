@@ -1,6 +1,6 @@
 -- A test and the fact that it stands for, for each way to build a test. Assumes nothing.
 use mathlib.Core.Bool.{Bool, true, false, _&&_, _||_}
-use mathlib.Core.Path.{_≡_, refl}
+use mathlib.Core.Path.{_≡_, refl, sym}
 use mathlib.Core.Logic.{_↔_, _⊎_, inl, inr}
 use Prim.Native.Nat.{ℕ, _≤_, _<_}
 use native.Mathlib.Omega.{arith}
@@ -16,6 +16,15 @@ Tests b P = (b ≡ true) ↔ P
 
 pub tests-same : {b : Bool} {P Q : Type 0} → Tests b P → (P → Q) → (Q → P) → Tests b Q
 tests-same f to from = (λ e. to (f .0 e), λ q. f .1 (from q))
+
+-- two tests of the same fact are one
+pub tests-equal : {a b : Bool} {P : Type 0} → Tests a P → Tests b P → a ≡ b
+tests-equal {a} {b} {P} f g = go a b (λ e. g .1 (f .0 e)) (λ e. f .1 (g .0 e))
+  where
+    go : (s t : Bool) → (s ≡ true → t ≡ true) → (t ≡ true → s ≡ true) → s ≡ t
+    go true t p q = sym (p refl)
+    go false true p q = q refl
+    go false false p q = refl
 
 pub leb-tests : (x y : ℕ) → Tests (leb x y) (x ≤ y)
 leb-tests x y = (leb-true x y, le-leb x y)

@@ -113,7 +113,7 @@ chained-tests : (k i count start : ℕ) (bs : List Bucket) → Tests (chained k 
 chained-tests k i count start [] = eqb-tests start (2 ^ k)
 chained-tests k i count start (b ∷ bs) = and-tests (bucket-tests k i count start b) (chained-tests k i count (b .offset + b .width) bs)
 
-buckets-tests : (k i first : ℕ) (bs : List Bucket) → Tests (soundBuckets k i first bs) (SoundBuckets k i first bs)
+pub buckets-tests : (k i first : ℕ) (bs : List Bucket) → Tests (soundBuckets k i first bs) (SoundBuckets k i first bs)
 buckets-tests k zero first bs = and-tests (ltb-tests first (2 ^ k)) (rising-tests k first bs)
 buckets-tests k (suc j) first bs = and-tests (leb-tests 1 (length bs)) (chained-tests k (suc j) (length bs) first bs)
 

@@ -1,2 +1,5 @@
+pub mod Bits
 pub mod Slot
+pub mod Pass
+pub mod PassLaws
 pub mod Steps

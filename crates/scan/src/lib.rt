@@ -1,17 +1,17 @@
 // Reading one level of a histogram, on its part of the words.
 use shape::Shape;
 ghost use mathlib.Core.Path.{_≡_};
-ghost use mathlib.Core.Bool.{cond};
+ghost use mathlib.Core.Bool.{cond, _&&_};
 ghost use Prim.Native.Nat.{_+_, _*_, _^_, _<_, _≤_};
-ghost use lib.Dec.{leb, ltb};
+ghost use lib.Dec.{leb};
 ghost use lib.ListN.{length, getD, drop};
 ghost use Rattle.shape.specs.Layout.{levelWords};
 ghost use Rattle.model.specs.Words.{slot, slots, decodeLevel};
 ghost use Rattle.model.specs.Block.{sumFrom};
-ghost use Rattle.model.specs.Sound.{implies, zeros, isPower, rising, soundBucket, chained, soundBuckets, soundLevel};
+ghost use Rattle.model.specs.Sound.{implies, zeros, soundLevel};
 ghost use Rattle.laws.specs.Place.{place};
 ghost use Rattle.scan.specs.Slot.{content};
-ghost use Rattle.scan.specs.Steps.{soundSingle};
+ghost use Rattle.scan.specs.Pass.{unseen, below, spread, seeSingle, seeBucket, seeAll, leastOf, seenLevel, weightSeen, soundSeen};
 
 // The words of one slot.
 struct Slot {
@@ -91,24 +91,29 @@ pub fn sum_from(level: &[u32], a: u32) -> u64
     sum
 }
 
-// Whether all words from `from` on are zero.
+// Whether all words from `from` on are zero: their bits are collected, and tested once.
 fn is_zero(level: &[u32], from: usize) -> bool
     ensures { λ r. ⌜ r ≡ zeros (drop from (now (level .entry))) ⌝ }
 {
+    let mut all: u32 = 0;
     let mut at = from;
     while at < level.len() {
-        if level[at] != 0 {
-            return false;
-        }
+        all = all | level[at];
         at += 1;
     }
-    true
+    all == 0
 }
 
 fn implied(a: bool, b: bool) -> bool
     ensures { λ r. ⌜ r ≡ implies a b ⌝ }
 {
     if a { b } else { true }
+}
+
+fn both(a: bool, b: bool) -> bool
+    ensures { λ r. ⌜ r ≡ (a && b) ⌝ }
+{
+    if a { b } else { false }
 }
 
 pub fn power(k: u8) -> u32
@@ -118,113 +123,151 @@ pub fn power(k: u8) -> u32
     1 << k
 }
 
-// Whether x is a power of two up to 2 ^ k.
-fn is_power(k: u8, x: u32) -> bool
-    requires { ⌜ k ≤ 31 ⌝ }
-    ensures { λ r. ⌜ r ≡ isPower k x ⌝ }
-{
-    let mut p = power(k);
-    let mut j = k;
-    while 0 < j {
-        if x == p {
-            return true;
-        }
-        p = p / 2;
-        j -= 1;
-    }
-    x == 1
+// What a pass over the buckets of a level has collected. No fault ends the pass: it is to run without a branch, four slots at a time,
+// so all is in words of 32 bits, and is tested once a level.
+struct Seen {
+    // Where the next bucket is to start, or the least offset that it may have.
+    end: u32,
+    // Bits that must be 0.
+    faults: u32,
+    // The bits of numbers that must be below 2 ^ k.
+    reach: u32,
+    // The bits of weights that must be below 2 ^ (i + 1).
+    heavy: u32,
+    // How many numbers are less than they must be.
+    short: u32,
+    // The sum of the weights, up to a multiple of 2 ^ 32.
+    low: u32,
+    // The sum of the weights' upper halves.
+    high: u32,
 }
 
-// Whether a bucket may stand at level 0, at offset `from` or later.
-fn sound_single(k: u8, from: u64, b: Slot) -> bool
-    requires { ⌜ k ≤ 31 ⌝ }
-    ensures { λ r. ⌜ r ≡ soundSingle k from (content b) ⌝ }
+// Before the first bucket.
+fn start(first: u32) -> Seen
+    ensures { λ r. ⌜ r ≡ unseen first ⌝ }
 {
-    if long(b.offset) < from {
-        return false;
+    Seen {
+        end: first,
+        faults: 0,
+        reach: 0,
+        heavy: 0,
+        short: 0,
+        low: 0,
+        high: 0,
     }
-    if power(k) <= b.offset {
-        return false;
-    }
-    if b.width != 1 {
-        return false;
-    }
-    1 <= b.weight
 }
 
-// Whether the buckets are those of a level 0.
-fn is_rising(level: &[u32], count: usize, k: u8) -> bool
-    requires { ⌜ (2 + 3 * count ≤ length (now level)) × (k ≤ 31) ⌝ }
-    ensures { λ r. ⌜ r ≡ rising k (getD (now (level .entry)) 1 0) (slots (now (level .entry)) 0 count) ⌝ }
+// 1 if x is less than y: a number, so that it is computed without a branch.
+fn under(x: u32, y: u32) -> u32
+    ensures { λ r. ⌜ (r ≡ below x y) × (r ≤ 1) ⌝ }
 {
-    let mut from = long(level[1]);
+    if x < y { 1 } else { 0 }
+}
+
+// The weight, where the bucket is longer than 1.
+fn shared(b: Slot) -> u32
+    ensures { λ r. ⌜ r ≡ spread (content b) ⌝ }
+{
+    if b.width == 1 { 0 } else { b.weight }
+}
+
+// A bucket of level 0.
+fn see_single(t: Seen, b: Slot) -> Seen
+    requires { ⌜ (t .short ≤ 2048) × (t .high ≤ 67108864) ⌝ }
+    ensures { λ r. ⌜ (r ≡ seeSingle t (content b)) × (r .short ≤ t .short + 2) × (r .high ≤ t .high + 65535) ⌝ }
+{
+    Seen {
+        end: std::num::wrapping_add_u32(b.offset, 1),
+        faults: t.faults | (b.width ^ 1),
+        reach: t.reach | b.offset,
+        heavy: t.heavy,
+        short: t.short + (under(b.offset, t.end) + under(b.weight, 1)),
+        low: std::num::wrapping_add_u32(t.low, b.weight),
+        high: t.high + b.weight / 65536,
+    }
+}
+
+// A bucket of a level from 1 on. A power of two has no bit in common with the number before it, nor has a multiple of it. An end that
+// wraps needs more buckets than a level has, where F and each length are within 2 ^ k.
+fn see_bucket(t: Seen, b: Slot, least: u32) -> Seen
+    requires { ⌜ (t .short ≤ 2048) × (t .high ≤ 67108864) ⌝ }
+    ensures { λ r. ⌜ (r ≡ seeBucket least t (content b)) × (r .short ≤ t .short + 1) × (r .high ≤ t .high + 65535) ⌝ }
+{
+    let less = std::num::wrapping_sub_u32(b.width, 1);
+    Seen {
+        end: std::num::wrapping_add_u32(b.offset, b.width),
+        faults: t.faults | (t.end ^ b.offset) | (b.width & less) | (b.offset & less),
+        reach: t.reach | less,
+        heavy: t.heavy | shared(b),
+        short: t.short + under(b.weight, least),
+        low: std::num::wrapping_add_u32(t.low, b.weight),
+        high: t.high + b.weight / 65536,
+    }
+}
+
+fn see_singles(level: &[u32], count: usize) -> Seen
+    requires { ⌜ (2 + 3 * count ≤ length (now level)) × (count ≤ 1024) ⌝ }
+    ensures { λ r. ⌜ r ≡ seeAll seeSingle (unseen (getD (now (level .entry)) 1 0)) (slots (now (level .entry)) 0 count) ⌝ }
+{
+    let mut t = start(level[1]);
     let mut j: usize = 0;
     while j < count {
-        let b = slot_at(level, j);
-        if !sound_single(k, from, b) {
-            return false;
-        }
-        from = long(b.offset) + 1;
+        t = see_single(t, slot_at(level, j));
         j += 1;
     }
-    true
+    t
 }
 
-// Whether a bucket may stand at level i from 1 on, where the one before it ended at `start`.
-fn sound_bucket(k: u8, i: u8, many: bool, start: u64, b: Slot) -> bool
-    requires { ⌜ (k ≤ 31) × (i ≤ 30) ⌝ }
-    ensures { λ r. ⌜ r ≡ soundBucket k i many start (content b) ⌝ }
+fn see_buckets(level: &[u32], count: usize, least: u32) -> Seen
+    requires { ⌜ (2 + 3 * count ≤ length (now level)) × (count ≤ 1024) ⌝ }
+    ensures { λ r. ⌜ r ≡ seeAll (seeBucket least) (unseen (getD (now (level .entry)) 1 0)) (slots (now (level .entry)) 0 count) ⌝ }
 {
-    if long(b.offset) != start {
-        return false;
+    let mut t = start(level[1]);
+    let mut at: usize = 0;
+    while at < count {
+        t = see_bucket(t, slot_at(level, at), least);
+        at += 1;
     }
-    if !is_power(k, b.width) {
-        return false;
-    }
-    if b.offset % b.width != 0 {
-        return false;
-    }
-    let low = power(i);
-    let high = 2 * low;
-    if !implied(1 < b.width, b.weight < high) {
-        return false;
-    }
-    implied(many, low <= b.weight)
+    t
 }
 
-// Whether the buckets are those of a level i from 1 on.
-fn is_chained(level: &[u32], count: usize, k: u8, i: u8, many: bool) -> bool
-    requires { ⌜ (2 + 3 * count ≤ length (now level)) × (k ≤ 31) × (i ≤ 30) ⌝ }
-    ensures { λ r. ⌜ r ≡ chained k i many (getD (now (level .entry)) 1 0) (slots (now (level .entry)) 0 count) ⌝ }
+// The least weight of a bucket of level i from 1 on.
+fn least(count: usize, i: u8) -> u32
+    requires { ⌜ i ≤ 31 ⌝ }
+    ensures { λ r. ⌜ r ≡ leastOf count i ⌝ }
 {
-    let mut start = long(level[1]);
-    let mut j: usize = 0;
-    while j < count {
-        let b = slot_at(level, j);
-        if !sound_bucket(k, i, many, start, b) {
-            return false;
-        }
-        start = end(b);
-        j += 1;
-    }
-    start == long(power(k))
+    if 2 <= count { power(i) } else { 0 }
 }
 
-// Whether the buckets are those of a level i.
-fn sound_buckets(level: &[u32], count: usize, k: u8, i: u8) -> bool
-    requires { ⌜ (2 + 3 * count ≤ length (now level)) × (k ≤ 31) × (i ≤ 30) ⌝ }
-    ensures { λ r. ⌜ r ≡ soundBuckets k i (getD (now (level .entry)) 1 0) (slots (now (level .entry)) 0 count) ⌝ }
+// One pass over the buckets of level i.
+fn see(level: &[u32], count: usize, i: u8) -> Seen
+    requires { ⌜ (2 + 3 * count ≤ length (now level)) × (count ≤ 1024) × (i ≤ 31) ⌝ }
+    ensures { λ r. ⌜ r ≡ seenLevel i (getD (now (level .entry)) 1 0) (slots (now (level .entry)) 0 count) ⌝ }
 {
     if i == 0 {
-        if power(k) <= level[1] {
-            return false;
-        }
-        return is_rising(level, count, k);
+        return see_singles(level, count);
     }
-    if count < 1 {
-        return false;
-    }
-    is_chained(level, count, k, i, 2 <= count)
+    see_buckets(level, count, least(count, i))
+}
+
+// The sum of the weights. What the lower halves add is below 2 ^ 32, so its remainder is all of it.
+fn weight(t: Seen) -> u64
+    ensures { λ r. ⌜ r ≡ weightSeen t ⌝ }
+{
+    let high = 65536 * long(t.high);
+    high + (long(t.low) + (4294967296 - high % 4294967296)) % 4294967296
+}
+
+// Whether the buckets of level i are sound, of which a pass collected t.
+fn sound_seen(t: Seen, first: u32, k: u8, i: u8) -> bool
+    requires { ⌜ (k ≤ 31) × (i ≤ 30) ⌝ }
+    ensures { λ r. ⌜ r ≡ soundSeen k i first t ⌝ }
+{
+    let top = power(k);
+    let high = 2 * power(i);
+    let ended = implied(0 < i, t.end == top);
+    let held = both(t.heavy < high, both(t.short == 0, ended));
+    both(first < top, both(t.faults == 0, both(t.reach < top, held)))
 }
 
 // Whether the words of level i are sound in a half of this total. The words may be any.
@@ -238,18 +281,12 @@ pub fn sound_level(level: &[u32], s: Shape, i: u8, total: u64) -> bool
     if n < count {
         return false;
     }
-    if !is_zero(level, 2 + 3 * count) {
-        return false;
-    }
-    let weight = sum_from(level, 0);
-    if total < weight {
-        return false;
-    }
-    if !implied(first == 0, weight == total) {
-        return false;
-    }
-    if !implied(0 < first, count == n) {
-        return false;
-    }
-    sound_buckets(level, count, s.k, i)
+    let unused = is_zero(level, 2 + 3 * count);
+    let t = see(level, count, i);
+    let weight = weight(t);
+    let whole = implied(first == 0, weight == total);
+    let full = implied(0 < first, count == n);
+    let parts = sound_seen(t, first, s.k, i);
+    let rest = both(whole, both(full, parts));
+    both(unused, both(weight <= total, rest))
 }

@@ -9,8 +9,10 @@
  *   n, 2 to 1024   buckets of a level; more of them make the sums closer
  *   m, 1 to 24     at most 2^m decilitres are kept for each grade and interval
  *   g, 1 to 8      grades, numbered from 0 to g - 1
- * On a book that only these calls have written, and with n above k + 1, the sum of a window is off
- * by at most 2(k+1)/(n-k-1) of the true sum. With k = 20 and n = 441 that is one tenth.
+ * A sum is of whole buckets, so it is near the true one and not always equal to it. On a book that
+ * only these calls have written since it was made, each lent all its words, and with n above k + 1,
+ * it is off by at most 2(k+1)/(n-k-1) of what the accepted deliveries add up to. With k = 20 and
+ * n = 441 that is one tenth.
  *
  * The book. In every call `book` points to `len` words and
  *   - is aligned for uint32_t and not null, also where len is 0;
@@ -23,7 +25,7 @@
  * given with it.
  *
  *    1  LITRES_SHAPE        the shape is outside its limits
- *    2  LITRES_LENGTH       fewer than 8 words, or not the length that the shape asks
+ *    2  LITRES_LENGTH       too few words for a head, or not as many as the shape needs
  *    3  LITRES_GRADE        the grade is not below g
  *    4  LITRES_VOLUME       the volume is 0 or above 65535
  *    5  LITRES_WINDOW       the window is above 2^k
@@ -82,16 +84,16 @@ uint32_t litres_clock(uint32_t *book, size_t len, uint32_t clock);
 
 /*
  * Records `volume` decilitres of a grade at tick `stamp`, which may lie up to 2^k ticks behind the
- * clock, in any order. Only this grade's words are inspected or changed.
+ * clock, in any order. Of the grades' words only this one's are inspected or changed.
  * Refused, in this order: 2 (under 8 words), 7, 2, 3, 4, 8, 9, 11, 12.
  */
 uint32_t litres_delivery(uint32_t *book, size_t len, uint32_t grade, uint32_t stamp,
                          uint32_t volume);
 
 /*
- * Writes to *sum the decilitres of a grade with stamps from clock - window to clock, both included,
- * from 0 where the window exceeds the clock. No word of the book changes. Only this grade's words
- * are inspected.
+ * Writes to *sum the histogram's sum for a grade, in decilitres, of the stamps from clock - window to
+ * clock, both included, from 0 where the window exceeds the clock. How near it is to the true sum is
+ * said above. No word of the book changes. Of the grades' words only this one's are inspected.
  * `sum` points to a uint64_t that may be written and must not point into the book. Where the call
  * is refused, *sum is not written.
  * Refused, in this order: 2 (under 8 words), 7, 2, 3, 5, 11.

@@ -6,7 +6,7 @@ use Rattle.shape.specs.Layout.{bookWords}
 use Rattle.model.specs.declared.Call.{Call}
 use Rattle.model.specs.declared.Call.the-variants.{Make, Clock, Delivery, Query}
 
--- a make gets the needed length, or all where more is needed
+-- the length that a shape within its limits needs, at most the whole buffer; else all of it
 abbrev pub lentToMake : ℕ → ℕ → ℕ → ℕ → ℕ → ℕ
 lentToMake all k n m g = cond (within k n m g) (min (bookWords (shaped k n m g)) all) all
 

@@ -17,9 +17,9 @@ abbrev pub laterFields : List ℕ → List (List ℕ)  -- what stands after each
 laterFields [] = []
 laterFields (b ∷ bs) = cond (eqb b 32) (firstField bs ∷ laterFields bs) (laterFields bs)
 
-abbrev pub all : {A : Type 0} → (A → Bool) → List A → Bool
-all p [] = true
-all p (x ∷ xs) = p x && all p xs
+abbrev pub every : {A : Type 0} → (A → Bool) → List A → Bool
+every p [] = true
+every p (x ∷ xs) = p x && every p xs
 
 abbrev pub isDigit : ℕ → Bool
 isDigit b = between 48 b 57
@@ -35,7 +35,7 @@ valueOf ds = valueFrom 0 ds
 abbrev pub isDecimal : List ℕ → Bool
 isDecimal [] = false
 isDecimal (d ∷ []) = isDigit d
-isDecimal (d ∷ e ∷ ds) = not (eqb d 48) && all isDigit (d ∷ e ∷ ds)
+isDecimal (d ∷ e ∷ ds) = not (eqb d 48) && every isDigit (d ∷ e ∷ ds)
 
 abbrev pub largest : ℕ  -- each number is at most this
 largest = 4294967295
@@ -60,7 +60,7 @@ called letter (a ∷ b ∷ c ∷ d ∷ e ∷ more) = unread
 
 abbrev pub ordered : List ℕ → List (List ℕ) → Reply  -- a line's fields: one letter, and numbers
 ordered [] fields = unread
-ordered (letter ∷ []) fields = cond (all isNumber fields) (called letter (map valueOf fields)) unread
+ordered (letter ∷ []) fields = cond (every isNumber fields) (called letter (map valueOf fields)) unread
 ordered (letter ∷ b ∷ bs) fields = unread
 
 unfoldable pub grammar : List ℕ → Reply

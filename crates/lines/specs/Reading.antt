@@ -17,7 +17,7 @@ use Rattle.lines.specs.declared.Kept.the-variants.{None, One, Two, Three
 use Rattle.lines.specs.declared.State.{State}
 use Rattle.lines.specs.declared.State.the-variants.{Start, Letter, Space, Number, Broken}
 use Rattle.lines.specs.declared.Line.{Line}
-use Rattle.lines.specs.Grammar.{firstField, laterFields, all, isDigit, valueFrom, valueOf, largest, isNumber, unread, called, ordered, grammar}
+use Rattle.lines.specs.Grammar.{firstField, laterFields, every, isDigit, valueFrom, valueOf, largest, isNumber, unread, called, ordered, grammar}
 use Rattle.lines.specs.Machine.{numbersOf, spaced, grows, moved, ended, started, stepped, finished}
 
 -- ---- a number, digit by digit
@@ -40,7 +40,7 @@ regroup true a l = refl
 regroup false a l = refl
 
 -- a number's later digits are tested one by one
-later : (v : ℕ) (ds : List ℕ) → 0 < v → v ≤ largest → (all isDigit ds && leb (valueFrom v ds) largest) ≡ goesOn v ds
+later : (v : ℕ) (ds : List ℕ) → 0 < v → v ≤ largest → (every isDigit ds && leb (valueFrom v ds) largest) ≡ goesOn v ds
 unfolding goesOn
 later v [] low high = le-leb v largest high
 later v (d ∷ ds) low high =
@@ -52,18 +52,18 @@ later v (d ∷ ds) low high =
 
     Goal : Type 0
     Goal =
-        (isDigit d && all isDigit ds && leb (valueFrom next ds) largest)
+        (isDigit d && every isDigit ds && leb (valueFrom next ds) largest)
         ≡ (isDigit d && leb next largest && goesOn next ds)
 
     past : largest < next → Goal
     past h =
         rw (lt-leb next largest h, lt-leb (valueFrom next ds) largest (omega (arith, value-rises next ds)))
-        (and-false (isDigit d && all isDigit ds) refl ∙ sym (none-after (isDigit d) (goesOn next ds)))
+        (and-false (isDigit d && every isDigit ds) refl ∙ sym (none-after (isDigit d) (goesOn next ds)))
 
-    within : next ≤ largest → (all isDigit ds && leb (valueFrom next ds) largest) ≡ goesOn next ds → Goal
+    within : next ≤ largest → (every isDigit ds && leb (valueFrom next ds) largest) ≡ goesOn next ds → Goal
     within h rest =
         rw (le-leb next largest h, ← rest)
-        (regroup (isDigit d) (all isDigit ds) (leb (valueFrom next ds) largest))
+        (regroup (isDigit d) (every isDigit ds) (leb (valueFrom next ds) largest))
 
 -- a number is a digit and what may follow its value
 number-on : (d : ℕ) (ds : List ℕ) → isNumber (d ∷ ds) ≡ (isDigit d && goesOn (d - 48) ds)
@@ -77,7 +77,7 @@ number-on d (e ∷ ds) = go (isDigit d) refl
   where
     Goal : Bool → Type 0
     Goal t =
-        (not (eqb d 48) && (t && all isDigit (e ∷ ds)) && leb (valueOf (d ∷ e ∷ ds)) largest)
+        (not (eqb d 48) && (t && every isDigit (e ∷ ds)) && leb (valueOf (d ∷ e ∷ ds)) largest)
         ≡ (t && goesOn (d - 48) (e ∷ ds))
 
     leading : d ≡ 48 → Goal true
@@ -96,7 +96,7 @@ number-on d (e ∷ ds) = go (isDigit d) refl
 
 -- fields that follow a letter and its first numbers
 fieldsOf : ℕ → List ℕ → List (List ℕ) → Reply
-fieldsOf letter numbers fields = cond (all isNumber fields) (called letter (numbers ++ map valueOf fields)) unread
+fieldsOf letter numbers fields = cond (every isNumber fields) (called letter (numbers ++ map valueOf fields)) unread
 
 -- an answer where nothing more stands in the field
 alone : List ℕ → Reply → Reply
@@ -140,7 +140,7 @@ unfolding left
 space-on letter v None bs = refl
 space-on letter v (One a) bs = refl
 space-on letter v (Two a b) bs = refl
-space-on letter v (Three a b c) bs = either (all isNumber (firstField bs ∷ laterFields bs)) unread
+space-on letter v (Three a b c) bs = either (every isNumber (firstField bs ∷ laterFields bs)) unread
 
 grow-on : (t : Bool) (letter next : ℕ) (kept : Kept) (bs : List ℕ)
     → cond (t && goesOn next (firstField bs)) (fieldsOf letter (numbersOf kept ++ valueFrom next (firstField bs) ∷ []) (laterFields bs)) unread
@@ -158,8 +158,8 @@ digit-on true letter b kept bs q =
     let fs = laterFields bs in
     let ns = numbersOf kept in
     rw (number-on b f, q)
-    (within-both (goesOn (b - 48) f) (all isNumber fs) (called letter (ns ++ valueOf (b ∷ f) ∷ map valueOf fs)) unread
-    ∙ ap (λ (l : List ℕ). cond (goesOn (b - 48) f) (cond (all isNumber fs) (called letter l) unread) unread)
+    (within-both (goesOn (b - 48) f) (every isNumber fs) (called letter (ns ++ valueOf (b ∷ f) ∷ map valueOf fs)) unread
+    ∙ ap (λ (l : List ℕ). cond (goesOn (b - 48) f) (cond (every isNumber fs) (called letter l) unread) unread)
     (ap (λ (v : ℕ). ns ++ valueFrom v f ∷ map valueOf fs) (zero-add (b - 48)) ∙ sym (append-snoc ns (valueFrom (b - 48) f) (map valueOf fs))))
 
 -- each byte is read as the grammar has it

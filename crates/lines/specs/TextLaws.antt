@@ -16,7 +16,7 @@ use Rattle.model.specs.declared.Answer.the-variants.{Refused}
 use Rattle.model.specs.declared.Refusal.{Refusal}
 use Rattle.model.specs.declared.Refusal.the-variants.{Shape, Length, Grade, Volume, Window, Limit, Head, Ahead, Late, Back, Block, Full}
 use Rattle.laws.specs.Cases.{by-lt, and-true}
-use Rattle.lines.specs.Grammar.{all, isDigit, valueFrom, valueOf, isDecimal}
+use Rattle.lines.specs.Grammar.{every, isDigit, valueFrom, valueOf, isDecimal}
 use Rattle.lines.specs.Text.{digitsOf, decimal, numbered, sumWord, refusedWord, acceptedText, textOf, unreadText, written, put}
 
 -- a text and another after it
@@ -136,14 +136,14 @@ digits-value (suc most) x h =
 digit-of : (x : ℕ) → x < 10 → isDigit (48 + x) ≡ true
 digit-of x h = and-true (le-leb 48 (48 + x) (omega arith)) (le-leb (48 + x) 57 (omega arith))
 
-all-append : (ds : List ℕ) (d : ℕ) → all isDigit ds ≡ true → isDigit d ≡ true → all isDigit (ds ++ d ∷ []) ≡ true
-all-append [] d p q = rw q
-all-append (e ∷ ds) d p q = let h = both {a = isDigit e} {b = all isDigit ds} p in and-true (h .0) (all-append ds d (h .1) q)
+every-append : (ds : List ℕ) (d : ℕ) → every isDigit ds ≡ true → isDigit d ≡ true → every isDigit (ds ++ d ∷ []) ≡ true
+every-append [] d p q = rw q
+every-append (e ∷ ds) d p q = let h = both {a = isDigit e} {b = every isDigit ds} p in and-true (h .0) (every-append ds d (h .1) q)
 
 decimal-more : (ds : List ℕ) (d : ℕ) → isDecimal ds ≡ true → 0 < valueOf ds → isDigit d ≡ true → isDecimal (ds ++ d ∷ []) ≡ true
 decimal-more [] d p h q = absurd (omega arith)
-decimal-more (e ∷ []) d p h q = rw (ne-eqb e 48 (λ z. omega arith)) (all-append (e ∷ []) d (and-true p refl) q)
-decimal-more (e ∷ f ∷ ds) d p h q = let b = both {a = not (eqb e 48)} {b = all isDigit (e ∷ f ∷ ds)} p in and-true (b .0) (all-append (e ∷ f ∷ ds) d (b .1) q)
+decimal-more (e ∷ []) d p h q = rw (ne-eqb e 48 (λ z. omega arith)) (every-append (e ∷ []) d (and-true p refl) q)
+decimal-more (e ∷ f ∷ ds) d p h q = let b = both {a = not (eqb e 48)} {b = every isDigit (e ∷ f ∷ ds)} p in and-true (b .0) (every-append (e ∷ f ∷ ds) d (b .1) q)
 
 digits-decimal : (most x : ℕ) → x < 10 ^ suc most → isDecimal (digitsOf (suc most) x) ≡ true
 digits-decimal zero x h =

@@ -62,7 +62,7 @@ bookView ws = record {
   total = λ grade stamp. halfOf (interval (shapeOf ws) stamp) (blockAt ws grade) .total;
 }
 
-unfoldable pub made : Shape → List ℕ  -- the head with clock 0, and all halves empty
+unfoldable pub made : Shape → List ℕ  -- clock 0 and nothing in any half
 made s = encodeHead s 0 ++ join (replicate (s .g) (encodeBlock s (record { even = emptyHalf s; odd = emptyHalf s })))
 
 unfoldable pub clocked : Shape → ℕ → List ℕ → List ℕ  -- the head with the new clock, and in every grade the halves emptied that the clock empties

@@ -23,14 +23,14 @@ levelOf first buckets = record { first = first; buckets = buckets }
 abbrev pub gained : Bucket → Bucket  -- the bucket gains 1
 gained b = bucketOf (b .offset) (b .width) (suc (b .weight))
 
-abbrev pub put : ℕ → List Bucket → List Bucket  -- level 0: the bucket of offset x gains 1, or is made with weight 1 in its place
+abbrev pub put : ℕ → List Bucket → List Bucket  -- level 0: x's own bucket gains 1; where there is none, one of weight 1 comes in by its offset
 put x [] = bucketOf x 1 1 ∷ []
 put x (b ∷ bs) = cond (ltb x (b .offset)) (bucketOf x 1 1 ∷ b ∷ bs) (cond (eqb x (b .offset)) (gained b ∷ bs) (b ∷ put x bs))
 
 abbrev pub holds : Bucket → ℕ → Bool  -- the bucket covers offset x
 holds b x = leb (b .offset) x && ltb x (b .offset + b .width)
 
-abbrev pub split : ℕ → Bucket → List Bucket  -- at level i, having gained: of weight 2^(i+1) and length above 1 it becomes two halves of weight 2^i
+abbrev pub split : ℕ → Bucket → List Bucket  -- at level i, after a gain: longer than 1 and at 2^(i+1) it is halved, 2^i to each half
 split i b =
     let half = b .width / 2 in
     cond (eqb (b .weight) (2 ^ suc i) && ltb 1 (b .width)) (bucketOf (b .offset) half (2 ^ i) ∷ bucketOf (b .offset + half) half (2 ^ i) ∷ []) (b ∷ [])
@@ -48,7 +48,7 @@ firstAfter zero b rest = b .offset + 1
 firstAfter (suc j) b [] = b .offset + b .width
 firstAfter (suc j) b (next ∷ rest) = next .offset
 
-abbrev pub evict : ℕ → ℕ → ℕ → List Bucket → Level  -- if there are now n + 1 buckets, the lowest is given up
+abbrev pub evict : ℕ → ℕ → ℕ → List Bucket → Level  -- past n buckets the lowest is given up
 evict n i first [] = levelOf first []
 evict n i first (b ∷ bs) = cond (eqb (length (b ∷ bs)) (n + 1)) (levelOf (firstAfter i b bs) bs) (levelOf first (b ∷ bs))
 

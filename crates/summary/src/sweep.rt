@@ -1,4 +1,4 @@
-// Every block of a book, from grade 0 on, each handed on as that part of the book.
+// Every block of a book, from grade 0 on: one part of the words after the other.
 use shape::Shape;
 ghost use mathlib.Core.Path.{_≡_};
 ghost use mathlib.Core.List.{_++_};

@@ -37,7 +37,7 @@ pub fn make(book: &mut [u32], k: u32, n: u32, m: u32, g: u32) -> Result<(), Refu
     accepted(unsafe { archive::litres_make(words, len, k, n, m, g) })
 }
 
-/// Moves the clock on and empties what has passed out of reach.
+/// Moves the clock on; on entering an interval empties the one before the last.
 pub fn clock(book: &mut [u32], clock: u32) -> Result<(), Refused> {
     let (words, len) = (book.as_mut_ptr(), book.len());
     // SAFETY: as for `make`.
@@ -51,7 +51,8 @@ pub fn delivery(book: &mut [u32], grade: u32, stamp: u32, volume: u32) -> Result
     accepted(unsafe { archive::litres_delivery(words, len, grade, stamp, volume) })
 }
 
-/// The decilitres of a grade from `window` ticks before the clock up to the clock.
+/// The histogram's sum for a grade, in decilitres, from `window` ticks before the clock up to the clock: near the true sum, as
+/// the header says.
 pub fn query(book: &[u32], grade: u32, window: u32) -> Result<u64, Refused> {
     let mut sum = 0;
     // SAFETY: the pointer and the length are of one slice, shared and so not written by anybody

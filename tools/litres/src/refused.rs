@@ -12,7 +12,7 @@ impl Refused {
     pub fn meaning(self) -> &'static str {
         match self.0 {
             1 => "shape outside its limits",
-            2 => "fewer than 8 words, or not the length that the shape asks",
+            2 => "too few words for a head, or not as many as the shape needs",
             3 => "no such grade",
             4 => "volume 0 or above 65,535",
             5 => "window longer than an interval",

@@ -1,10 +1,14 @@
--- How much of the bench program's buffer a call is lent. Assumes nothing.
+-- How much of the bench program's buffer a call is lent, and what it does to the buffer. Assumes nothing.
 use mathlib.Core.Bool.{cond}
+use mathlib.Core.List.{List, _++_}
 use Prim.Native.Nat.{ℕ, min}
-use Rattle.shape.specs.Limits.{within, shaped}
+use lib.Dec.{eqb}
+use lib.ListN.{take, drop}
+use Rattle.shape.specs.Limits.{Reply, within, shaped}
 use Rattle.shape.specs.Layout.{bookWords}
 use Rattle.model.specs.declared.Call.{Call}
 use Rattle.model.specs.declared.Call.the-variants.{Make, Clock, Delivery, Query}
+use Rattle.model.specs.Calls.{Outcome, outcomeOf, perform}
 
 -- the length that a shape within its limits needs, at most the whole buffer; else all of it
 abbrev pub lentToMake : ℕ → ℕ → ℕ → ℕ → ℕ → ℕ
@@ -16,3 +20,11 @@ lentTo all lent (Make k n m g) = lentToMake all k n m g
 lentTo all lent (Clock clock) = lent
 lentTo all lent (Delivery grade stamp volume) = lent
 lentTo all lent (Query grade window) = lent
+
+-- after an accepted call as much stays lent as it was lent; a refused one changes nothing
+abbrev pub lentAfter : Reply → ℕ → ℕ → ℕ
+lentAfter reply before lent = cond (eqb (reply .number) 0) lent before
+
+-- a call on the front of the buffer; the words behind stay
+unfoldable pub performOn : ℕ → List ℕ → Call → Outcome (List ℕ)
+performOn lent ws call = let done = perform (take lent ws) call in outcomeOf (done .reply) (done .left ++ drop lent ws)

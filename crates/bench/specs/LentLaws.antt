@@ -1,12 +1,19 @@
--- What a call is lent lies within the buffer. Assumes nothing.
+-- What a call is lent lies within the buffer, and so does what stays lent. Assumes nothing.
 use mathlib.Core.Bool.{Bool, true, false, cond}
+use mathlib.Core.Path.{_≡_}
 use Prim.Native.Nat.{ℕ, min, _≤_}
 use native.Mathlib.Omega.{arith}
-use Rattle.shape.specs.Limits.{within, shaped}
+use lib.Dec.{eqb}
+use borrow.Author.Tests.{ne-eqb}
+use Rattle.shape.specs.Limits.{Reply, within, shaped}
 use Rattle.shape.specs.Layout.{bookWords}
 use Rattle.model.specs.declared.Call.{Call}
 use Rattle.model.specs.declared.Call.the-variants.{Make, Clock, Delivery, Query}
-use Rattle.bench.specs.Lent.{lentTo}
+use Rattle.model.specs.declared.Refusal.{Refusal}
+use Rattle.model.specs.declared.Answer.the-variants.{Refused}
+use Rattle.model.specs.Reply.{numberOf, replyOf}
+use Rattle.summary.specs.Judge.{numberOf-pos}
+use Rattle.bench.specs.Lent.{lentTo, lentAfter}
 
 pub lent-inside : (all lent : ℕ) (call : Call) → lent ≤ all → lentTo all lent call ≤ all
 lent-inside all lent (Make k n m g) h = go (within k n m g) (bookWords (shaped k n m g))
@@ -17,3 +24,15 @@ lent-inside all lent (Make k n m g) h = go (within k n m g) (bookWords (shaped k
 lent-inside all lent (Clock clock) h = h
 lent-inside all lent (Delivery grade stamp volume) h = h
 lent-inside all lent (Query grade window) h = h
+
+pub after-inside : (all : ℕ) (reply : Reply) (before lent : ℕ) → before ≤ all → lent ≤ all → lentAfter reply before lent ≤ all
+after-inside all reply before lent b l = go (eqb (reply .number) 0)
+  where
+    go : (a : Bool) → cond a lent before ≤ all
+    go true = l
+    go false = b
+
+-- after a refused call as much is lent as before
+pub refused-after : (why : Refusal) (before lent : ℕ) → lentAfter (replyOf (Refused why)) before lent ≡ before
+unfolding replyOf
+refused-after why before lent = rw (ne-eqb (numberOf why) 0 (numberOf-pos why))

@@ -9,10 +9,10 @@ use shape::Checked;
 use shape::Shape;
 ghost use mathlib.Core.Path.{_≡_};
 ghost use Prim.Native.Nat.{_+_, _≤_, _<_, min};
-ghost use lib.ListN.{length, take};
+ghost use lib.ListN.{length};
 ghost use Rattle.model.specs.Reply.{replyOf};
-ghost use Rattle.model.specs.Calls.{outcomeOf, perform};
-ghost use Rattle.bench.specs.Lent.{lentToMake, lentTo};
+ghost use Rattle.model.specs.Calls.{outcomeOf};
+ghost use Rattle.bench.specs.Lent.{lentToMake, lentTo, lentAfter, performOn};
 
 // No answer is longer than this.
 const LONGEST: usize = 32;
@@ -65,15 +65,14 @@ fn lent_to(all: usize, lent: usize, call: Call) -> usize
 // A call on the words that it is lent.
 fn perform_on(book: &mut [u32], lent: usize, call: Call) -> Answer
     requires { ⌜ lent ≤ length (now book) ⌝ }
-    ensures { λ r. ⌜ outcomeOf (replyOf r) (take lent (now (book .exit))) ≡ perform (take lent (now (book .entry))) call ⌝ }
+    ensures { λ r. ⌜ outcomeOf (replyOf r) (now (book .exit)) ≡ performOn lent (now (book .entry)) call ⌝ }
 {
     summary::perform(&mut book[..lent], call)
 }
 
 // How many words are lent after a call that was lent so many: a refused one changes nothing.
-fn lent_after(answer: Answer, before: usize, lent: usize, all: usize) -> usize
-    requires { ⌜ (before ≤ all) × (lent ≤ all) ⌝ }
-    ensures { λ r. ⌜ r ≤ all ⌝ }
+fn lent_after(answer: Answer, before: usize, lent: usize) -> usize
+    ensures { λ r. ⌜ r ≡ lentAfter (replyOf answer) before lent ⌝ }
 {
     match answer {
         Answer::Done => lent,
@@ -106,16 +105,16 @@ fn put_answer(out: &mut [u8], used: usize, answer: Answer) -> usize
     requires { ⌜ used + 32 ≤ length (now out) ⌝ }
     ensures { λ r. ⌜ r ≤ length (now (out .entry)) ⌝ }
 {
-    let length = lines::answer(answer, &mut out[used..]);
-    used + length
+    let added = lines::answer(answer, &mut out[used..]);
+    used + added
 }
 
 fn put_unread(out: &mut [u8], used: usize) -> usize
     requires { ⌜ used + 32 ≤ length (now out) ⌝ }
     ensures { λ r. ⌜ r ≤ length (now (out .entry)) ⌝ }
 {
-    let length = lines::unread(&mut out[used..]);
-    used + length
+    let added = lines::unread(&mut out[used..]);
+    used + added
 }
 
 // The line ends: its call is performed, and the answer waits in the output.
@@ -131,7 +130,7 @@ fn end_line(book: &mut [u32], out: &mut [u8], s: Session) -> Session
         Parsed::Read(call) => {
             let lent = lent_to(all, before, call);
             let answer = perform_on(book, lent, call);
-            let after = lent_after(answer, before, lent, all);
+            let after = lent_after(answer, before, lent);
             let end = put_answer(out, used, answer);
             Session {
                 line: Line::start(),

@@ -1,6 +1,8 @@
 -- What is lent and what waits stay within their buffers.
+use Prim.Native.Nat.{_≤_}
 use lib.ListN.{length}
-use Rattle.bench.specs.LentLaws.{lent-inside}
+use Rattle.model.specs.Reply.{replyOf}
+use Rattle.bench.specs.LentLaws.{lent-inside, after-inside}
 use borrow.Author.Needs.{needs}
 use Rattle.bench.proofs.end_line.Statement.{statement}
 use Rattle.bench.proofs.end_line.Tie as tie
@@ -23,10 +25,7 @@ perform-on-requires c κs =
     rw (c .before .lent-to .ensures) (lent-inside (length (d .args .book .now)) (d .args .s .lent) (c .before .before .before .call .given .0 .0) (d .pre .0))
 
 lent-after-requires : tie.Need-lent-after-requires
-lent-after-requires c κs =
-    let l = c .before .before .before .before in
-    let d = l .before .before .before .before .before .before .before .before .before .before in
-    (d .pre .0, rw (l .lent-to .ensures) (lent-inside (length (d .args .book .now)) (d .args .s .lent) (l .before .before .call .given .0 .0) (d .pre .0)))
+lent-after-requires c κs = search needs
 
 put-answer-requires : tie.Need-put-answer-requires
 put-answer-requires c κs = search needs
@@ -50,7 +49,14 @@ same-length-2 : tie.Need-same-length-2
 same-length-2 c = search needs
 
 returns : tie.Need-returns
-returns c = search needs
+returns c =
+    let p = c .before .before .before in
+    let m = p .before .before .before .before .before in
+    let l = m .before .before in
+    let d = l .before .before .before .before .before .before .before .before .before .before in
+    let all = length (d .args .book .now) in
+    let lent : l .lent-to .result ≤ all = rw (l .lent-to .ensures) (lent-inside all (d .args .s .lent) (l .before .before .call .given .0 .0) (d .pre .0)) in
+    (rw (p .before .before .lent-after .ensures) (after-inside all (replyOf (m .perform-on .result)) (d .args .s .lent) (l .lent-to .result) (d .pre .0) lent), p .put-answer .ensures)
 
 same-length-3 : tie.Need-same-length-3
 same-length-3 c = search needs

@@ -1,7 +1,11 @@
 -- The words that are lent come back in front of the others.
-use mathlib.Core.Path.{sym, _∙_}
+use mathlib.Core.Path.{sym, ap}
+use mathlib.Core.List.{List, _++_}
+use Prim.Native.Nat.{ℕ}
 use lib.ListN.{drop}
-use lib.Seq.{length-take-le, take-at}
+use lib.Seq.{length-take-le}
+use Rattle.model.specs.Calls.{Outcome, outcomeOf}
+use Rattle.bench.specs.Lent.{performOn}
 use borrow.Author.Needs.{needs}
 use Rattle.bench.proofs.perform_on.Statement.{statement}
 use Rattle.bench.proofs.perform_on.Tie as tie
@@ -21,10 +25,10 @@ same-length : tie.Need-same-length
 same-length c = search needs
 
 returns : tie.Need-returns
+unfolding performOn
 returns c =
     let d = c .before .before .before .before .before in
-    let size = c .before .before .perform .kept .0 ∙ length-take-le (d .args .lent) (d .args .book .now) (d .pre) in
-    rw (take-at (c .before .before .perform .last .0) (drop (d .args .lent) (d .args .book .now)) (d .args .lent) size) (c .before .before .perform .ensures)
+    ap (λ (o : Outcome (List ℕ)). outcomeOf (o .reply) (o .left ++ drop (d .args .lent) (d .args .book .now))) (c .before .before .perform .ensures)
 
 pub perform-on-spec : {M : Type 1} → statement M
 perform-on-spec =

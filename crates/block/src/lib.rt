@@ -1,11 +1,12 @@
 // One grade's block, on its part of the words: read, emptied, asked.
 use shape::Shape;
 ghost use mathlib.Core.Path.{_≡_};
-ghost use Prim.Native.Nat.{_%_, _^_, _≤_};
+ghost use Prim.Native.Nat.{_+_, _%_, _^_, _≤_};
+ghost use lib.Dec.{ltb};
 ghost use lib.ListN.{length, getD, replicate};
 ghost use Rattle.shape.specs.Layout.{levelWords};
 ghost use Rattle.model.specs.Words.{levelPart, decodeHalf, decodeBlock, encodeBlock};
-ghost use Rattle.model.specs.Block.{interval, offsetOf, emptyHalf, advance, serving, answer};
+ghost use Rattle.model.specs.Block.{interval, offsetOf, halfOf, emptyHalf, advance, serving, answer};
 ghost use Rattle.model.specs.Sound.{soundHalf, soundBlock};
 ghost use Rattle.laws.specs.Proper.{Sized, Whole};
 ghost use Rattle.laws.specs.BlockWrites.{withLevel};
@@ -36,6 +37,14 @@ fn offset(s: Shape, t: u32) -> u32
     t % ticks(s)
 }
 
+// What a half holds at most.
+fn capacity(s: Shape) -> u64
+    requires { ⌜ s .m ≤ 31 ⌝ }
+    ensures { λ r. ⌜ r ≡ 2 ^ s .m ⌝ }
+{
+    1 << s.m
+}
+
 // The words of a level of the half of a parity.
 fn level_at(block: &[u32], s: Shape, parity: u8, i: u8) -> &[u32]
     requires { ⌜ LevelIn s parity i (now block) ⌝ }
@@ -55,14 +64,22 @@ pub fn total(block: &[u32], j: u32) -> u64
     block[at] as u64
 }
 
+// Whether the half that serves a stamp's interval has no room for a volume. The words may be any.
+pub fn is_full(block: &[u32], s: Shape, stamp: u32, volume: u32) -> bool
+    requires { ⌜ Sized s (now block) ⌝ }
+    ensures { λ r. ⌜ r ≡ ltb (2 ^ s .m) (halfOf (interval s stamp) (decodeBlock s (now (block .entry))) .total + volume) ⌝ }
+{
+    let total = total(block, interval(s, stamp));
+    capacity(s) < total + (volume as u64)
+}
+
 // Whether the half of a parity is sound. The words may be any.
 fn check_half(block: &[u32], s: Shape, parity: u8) -> bool
     requires { ⌜ Sized s (now block) × (parity ≤ 1) ⌝ }
     ensures { λ r. ⌜ r ≡ soundHalf s parity (now (block .entry)) ⌝ }
 {
     let total = total(block, parity as u32);
-    let most = 1u64 << s.m;
-    if most < total {
+    if capacity(s) < total {
         return false;
     }
     let mut level: u8 = 0;

@@ -3,7 +3,7 @@
 use mathlib.Core.Bool.{Bool, true, false, cond, not, _||_}
 use mathlib.Core.Path.{_≡_, refl, sym, ap, _∙_}
 use mathlib.Core.List.{List, [], _∷_, _++_}
-use Prim.Native.Nat.{ℕ, _+_, _%_, _^_, _≤_, _<_}
+use Prim.Native.Nat.{ℕ, _+_, _^_, _≤_, _<_}
 use native.Mathlib.Omega.{arith}
 use lib.Dec.{ltb, eqb}
 use lib.ListN.{length, drop}
@@ -21,7 +21,6 @@ use Rattle.model.specs.Sound.{allFrom, maxClock, soundHead, soundBlock}
 use Rattle.model.specs.Calls.{View, firstOf, opened, refusals, bookView}
 use Rattle.model.specs.Reply.{numberOf}
 use Rattle.laws.specs.Proper.{Proper, Whole}
-use Rattle.laws.specs.Halves.{total-decode, whole-total}
 use Rattle.laws.specs.Refusals.{opened-accepted}
 use Rattle.model.specs.Claim.{ByCall}
 use Rattle.laws.specs.BookWords.{soundHead-limits, soundHead-clock, length-blockPart}

@@ -4,7 +4,7 @@ use borrow.Author.Needs.{needs}
 use borrow.Author.Tests.{lt-ltb, le-ltb, ltb-true, not-false}
 use mathlib.Core.Bool.{cond, not}
 use mathlib.Core.Path.{_≡_, sym, _∙_}
-use Prim.Native.Nat.{_+_, _^_, _≤_, _<_}
+use Prim.Native.Nat.{_+_, _^_, _<_}
 use lib.Dec.{ltb}
 use lib.Pow.{pow-mono}
 use Rattle.model.specs.declared.Call.the-variants.{Delivery}

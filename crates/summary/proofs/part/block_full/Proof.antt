@@ -1,11 +1,5 @@
 -- The part that is handed on is the block of the grade.
 use borrow.Author.Needs.{needs}
-use mathlib.Core.Path.{ap, _∙_}
-use mathlib.Core.List.{List}
-use Prim.Native.Nat.{ℕ, _+_, _^_}
-use lib.Dec.{ltb}
-use Rattle.model.specs.Block.{interval, halfOf}
-use Rattle.model.specs.Words.{decodeBlock}
 use Rattle.laws.specs.BookWords.{length-blockPart}
 use Rattle.summary.proofs.part.block_full.Statement.{statement}
 use Rattle.summary.proofs.part.block_full.Tie as tie
@@ -20,9 +14,7 @@ is-full-requires c κs =
     rw (c .block-at .ensures) (record { proper = b .proper; size = length-blockPart (a .s) (a .grade) (b .inside) (a .book .now) (b .size) })
 
 returns : tie.Need-returns
-returns c =
-    let a = c .before .before .before .args in
-    rw (← c .before .block-at .ensures) (c .is-full .ensures)
+returns c = rw (← c .before .block-at .ensures) (c .is-full .ensures)
 
 pub block-full-spec : {M : Type 1} → statement M
 block-full-spec = tie.close (tie.spec block-at-requires is-full-requires returns)

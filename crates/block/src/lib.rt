@@ -22,7 +22,7 @@ fn ticks(s: Shape) -> u32
 }
 
 // The interval in which a tick lies.
-fn interval(s: Shape, t: u32) -> u32
+pub fn interval(s: Shape, t: u32) -> u32
     requires { ⌜ s .k ≤ 31 ⌝ }
     ensures { λ r. ⌜ r ≡ interval s t ⌝ }
 {
@@ -30,11 +30,18 @@ fn interval(s: Shape, t: u32) -> u32
 }
 
 // Its offset there.
-fn offset(s: Shape, t: u32) -> u32
+pub fn offset(s: Shape, t: u32) -> u32
     requires { ⌜ s .k ≤ 31 ⌝ }
     ensures { λ r. ⌜ r ≡ offsetOf s t ⌝ }
 {
     t % ticks(s)
+}
+
+// The parity of the half that serves an interval.
+pub fn parity(j: u32) -> u8
+    ensures { λ r. ⌜ r ≡ j % 2 ⌝ }
+{
+    (j % 2) as u8
 }
 
 // What a half holds at most.
@@ -169,7 +176,7 @@ pub fn advance(block: &mut [u32], s: Shape, old: u32, new: u32)
         return;
     }
     if to == from + 1 {
-        clear_half(block, s, (to % 2) as u8);
+        clear_half(block, s, parity(to));
         return;
     }
     clear(block, s);
@@ -199,7 +206,7 @@ pub fn sum(block: &[u32], s: Shape, clock: u32, start: u32) -> u64
     let from = interval(s, start);
     let now = interval(s, clock);
     let a = offset(s, start);
-    let parity = (from % 2) as u8;
+    let parity = parity(from);
     let i = finest(block, s, parity, a);
     let sum = scan::sum_from(level_at(block, s, parity, i), a);
     if from == now {

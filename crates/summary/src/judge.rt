@@ -13,10 +13,12 @@ fn judge_clock_in(book: &[u32], s: Shape, clock: u32, to: u32) -> Opened
     requires { ⌜ Open (now book) s clock ⌝ }
     ensures { λ r. ⌜ Judges (now (book .entry)) (Call.Clock to) r ⌝ }
 {
-    if MAX_CLOCK < to {
+    let past = MAX_CLOCK < to;
+    let back = to < clock;
+    if past {
         return Opened::Refused(Refusal::Limit);
     }
-    if to < clock {
+    if back {
         return Opened::Refused(Refusal::Back);
     }
     if !all_sound(book, s) {

@@ -1,6 +1,6 @@
 -- The three branches are the three cases of what the clock empties.
-use mathlib.Core.Path.{_≡_, sym, _∙_}
-use Prim.Native.Nat.{_+_}
+use mathlib.Core.Path.{_≡_, sym, ap, _∙_}
+use Prim.Native.Nat.{ℕ, _+_, _%_}
 use native.Mathlib.Omega.{arith}
 use borrow.Author.Needs.{needs}
 use Rattle.model.specs.Block.{interval}
@@ -43,7 +43,9 @@ returns-2 c =
     let d = n .before .before .before in
     let a = d .args in
     let next : interval (a .s) (a .new) ≡ interval (a .s) (a .old) + 1 = omega arith in
-    c .before .before .clear-half .ensures ∙ rw (c .before .before .before .parity .ensures, n .interval2 .ensures) (emptied-next (a .s) (a .block .now) (d .pre) (a .old) (a .new) next)
+    let p = c .before .before .before .parity in
+    let half : p .result ≡ interval (a .s) (a .new) % 2 = p .ensures ∙ ap (λ (j : ℕ). j % 2) (n .interval2 .ensures) in
+    c .before .before .clear-half .ensures ∙ rw half (emptied-next (a .s) (a .block .now) (d .pre) (a .old) (a .new) next)
 
 clear-requires : tie.Need-clear-requires
 clear-requires c κs = search needs

@@ -187,7 +187,7 @@ module _ (ws : List ℕ) (s : Shape) (clock : ℕ) (o : Open ws s clock) where
     pub open-whole : soundBlock s (blockPart s grade ws) ≡ true → Whole s (blockPart s grade ws)
     open-whole sound = record { proper = open-proper; size = length-blockPart s grade h ws open-size; sound = sound }
 
--- such a delivery is of a grade of the book, and may be refused by 11 and 12
+-- a delivery that 3, 4, 8 and 9 do not refuse is of a grade of the book, and 11 and 12 are left
 module _ {ws : List ℕ} {s : Shape} {clock grade stamp volume : ℕ} (d : Due ws s clock grade stamp volume) where
   pub due-inside : InBook s grade ws
   due-inside = open-inside ws s clock (d .book) grade (d .inside)

@@ -11,7 +11,7 @@ ghost use Rattle.model.specs.declared.Call.the-variants as Call;
 ghost use Rattle.summary.specs.Judge.{Judges, Open, Due};
 
 // A volume is at most this.
-pub const MAX_VOLUME: u32 = 65535;
+const MAX_VOLUME: u32 = 65535;
 
 // Whether a volume is outside its limits.
 fn is_outside(volume: u32) -> bool
@@ -23,7 +23,7 @@ fn is_outside(volume: u32) -> bool
     MAX_VOLUME < volume
 }
 
-// The state of the named block: 11 and 12.
+// 11 and 12, by the words of the named block.
 fn judge_room(book: &[u32], s: Shape, clock: u32, grade: u32, stamp: u32, volume: u32) -> Opened
     requires { ⌜ Due (now book) s clock grade stamp volume ⌝ }
     ensures { λ r. ⌜ Judges (now (book .entry)) (Call.Delivery grade stamp volume) r ⌝ }
@@ -39,7 +39,7 @@ fn judge_room(book: &[u32], s: Shape, clock: u32, grade: u32, stamp: u32, volume
     Opened::Book { shape: s, clock }
 }
 
-// The numbers, of which each refusal is tested before the block is read: 3, 4, 8 and 9.
+// 3, 4, 8 and 9, by the numbers alone; only then is the block read.
 pub fn judge_delivery_in(
     book: &[u32],
     s: Shape,

@@ -32,7 +32,7 @@ fn is_blank(book: &[u32]) -> bool
     book[7] == 0
 }
 
-// A book of this shape: its clock and its length are looked at.
+// A book of this shape: its clock, the last words of its head and its length are looked at.
 fn with_shape(book: &[u32], shape: Shape) -> Opened
     requires { ⌜ Shaped (now book) shape ⌝ }
     ensures { λ r. ⌜ Opens (now (book .entry)) r ⌝ }

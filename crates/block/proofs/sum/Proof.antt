@@ -1,7 +1,8 @@
 -- The sum from the serving level, and the current half's total where the window opens in another interval.
-use mathlib.Core.Path.{_≡_, sym, _∙_}
-use Prim.Native.Nat.{_%_, _^_, _≤_}
+use mathlib.Core.Path.{_≡_, sym, ap, _∙_}
+use Prim.Native.Nat.{ℕ, _%_, _^_, _≤_}
 use native.Mathlib.Omega.{arith}
+use lib.ListN.{getD}
 use borrow.Author.Tests.{eq-eqb, ne-eqb}
 use borrow.Author.Needs.{needs}
 use Rattle.model.specs.Block.{interval, offsetOf, sumFrom, serving}
@@ -19,7 +20,9 @@ sum-is : (c : tie.After-sum-from) →
 sum-is c =
     let f = c .before .before in
     let p = f .before in
-    rw (← p .before .before .before .interval .ensures, ← p .parity .ensures, ← p .before .offset .ensures, ← f .finest .ensures .1, ← c .before .level-at .ensures) (c .sum-from .ensures)
+    let a = p .before .before .before .before .before .args in
+    let at : p .before .offset .result ≡ offsetOf (a .s) (a .start) = p .before .offset .ensures in
+    rw (← p .before .before .before .interval .ensures, ← p .parity .ensures, ← at, ← f .finest .ensures .1, ← c .before .level-at .ensures) (c .sum-from .ensures)
 
 sum-low : (c : tie.After-sum-from) → c .sum-from .result ≤ 2 ^ 24
 sum-low c =
@@ -80,7 +83,9 @@ returns-2 c =
     let i = c .before .before .before .before .before .before .before in
     let a = i .before .before .before .args in
     let apart : (interval (a .s) (a .start) ≡ interval (a .s) (a .clock)) → ⊥ = λ q. c .before .if1 .left (i .before .interval .ensures ∙ q ∙ sym (i .interval2 .ensures)) in
-    rw (answer-decode (a .s) (a .clock) (a .start) (a .block .now), ne-eqb _ _ apart, ← sum-is (c .before .before), ← i .interval2 .ensures, ← c .total .ensures)
+    let current : c .total .result ≡ getD (a .block .now) (interval (a .s) (a .clock) % 2) 0 =
+    c .total .ensures ∙ ap (λ (j : ℕ). getD (a .block .now) (j % 2) 0) (i .interval2 .ensures) in
+    rw (answer-decode (a .s) (a .clock) (a .start) (a .block .now), ne-eqb _ _ apart, ← sum-is (c .before .before), ← current)
 
 pub sum-spec : {M : Type 1} → statement M
 sum-spec =

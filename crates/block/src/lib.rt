@@ -1,11 +1,12 @@
 // One grade's block, on its part of the words: read, emptied, asked.
 use shape::Shape;
 ghost use mathlib.Core.Path.{_≡_};
-ghost use Prim.Native.Nat.{_%_, _^_, _≤_};
+ghost use Prim.Native.Nat.{_+_, _%_, _^_, _≤_};
+ghost use lib.Dec.{ltb};
 ghost use lib.ListN.{length, getD, replicate};
 ghost use Rattle.shape.specs.Layout.{levelWords};
 ghost use Rattle.model.specs.Words.{levelPart, decodeHalf, decodeBlock, encodeBlock};
-ghost use Rattle.model.specs.Block.{interval, offsetOf, emptyHalf, advance, serving, answer};
+ghost use Rattle.model.specs.Block.{interval, offsetOf, halfOf, emptyHalf, advance, serving, answer};
 ghost use Rattle.model.specs.Sound.{soundHalf, soundBlock};
 ghost use Rattle.laws.specs.Proper.{Sized, Whole};
 ghost use Rattle.laws.specs.BlockWrites.{withLevel};
@@ -21,7 +22,7 @@ fn ticks(s: Shape) -> u32
 }
 
 // The interval in which a tick lies.
-fn interval(s: Shape, t: u32) -> u32
+pub fn interval(s: Shape, t: u32) -> u32
     requires { ⌜ s .k ≤ 31 ⌝ }
     ensures { λ r. ⌜ r ≡ interval s t ⌝ }
 {
@@ -29,11 +30,26 @@ fn interval(s: Shape, t: u32) -> u32
 }
 
 // Its offset there.
-fn offset(s: Shape, t: u32) -> u32
+pub fn offset(s: Shape, t: u32) -> u32
     requires { ⌜ s .k ≤ 31 ⌝ }
     ensures { λ r. ⌜ r ≡ offsetOf s t ⌝ }
 {
     t % ticks(s)
+}
+
+// The parity of the half that serves an interval.
+pub fn parity(j: u32) -> u8
+    ensures { λ r. ⌜ r ≡ j % 2 ⌝ }
+{
+    (j % 2) as u8
+}
+
+// What a half holds at most.
+fn capacity(s: Shape) -> u64
+    requires { ⌜ s .m ≤ 31 ⌝ }
+    ensures { λ r. ⌜ r ≡ 2 ^ s .m ⌝ }
+{
+    1 << s.m
 }
 
 // The words of a level of the half of a parity.
@@ -55,14 +71,22 @@ pub fn total(block: &[u32], j: u32) -> u64
     block[at] as u64
 }
 
+// Whether the half that serves a stamp's interval has no room for a volume. The words may be any.
+pub fn is_full(block: &[u32], s: Shape, stamp: u32, volume: u32) -> bool
+    requires { ⌜ Sized s (now block) ⌝ }
+    ensures { λ r. ⌜ r ≡ ltb (2 ^ s .m) (halfOf (interval s stamp) (decodeBlock s (now (block .entry))) .total + volume) ⌝ }
+{
+    let total = total(block, interval(s, stamp));
+    capacity(s) < total + (volume as u64)
+}
+
 // Whether the half of a parity is sound. The words may be any.
 fn check_half(block: &[u32], s: Shape, parity: u8) -> bool
     requires { ⌜ Sized s (now block) × (parity ≤ 1) ⌝ }
     ensures { λ r. ⌜ r ≡ soundHalf s parity (now (block .entry)) ⌝ }
 {
     let total = total(block, parity as u32);
-    let most = 1u64 << s.m;
-    if most < total {
+    if capacity(s) < total {
         return false;
     }
     let mut level: u8 = 0;
@@ -152,7 +176,7 @@ pub fn advance(block: &mut [u32], s: Shape, old: u32, new: u32)
         return;
     }
     if to == from + 1 {
-        clear_half(block, s, (to % 2) as u8);
+        clear_half(block, s, parity(to));
         return;
     }
     clear(block, s);
@@ -182,7 +206,7 @@ pub fn sum(block: &[u32], s: Shape, clock: u32, start: u32) -> u64
     let from = interval(s, start);
     let now = interval(s, clock);
     let a = offset(s, start);
-    let parity = (from % 2) as u8;
+    let parity = parity(from);
     let i = finest(block, s, parity, a);
     let sum = scan::sum_from(level_at(block, s, parity, i), a);
     if from == now {

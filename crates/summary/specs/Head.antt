@@ -4,9 +4,9 @@ use mathlib.Core.Bool.{Bool, true, false, cond, not, _&&_}
 use mathlib.Core.Path.{_≡_, refl, sym, ap, _∙_, subst}
 use mathlib.Core.List.{List, [], _∷_, _++_}
 use Prim.Native.Nat.{ℕ, _≤_, _<_}
-use lib.Dec.{leb, eqb}
+use lib.Dec.{eqb}
 use lib.ListN.{length, getD, drop, set, take-append-drop}
-use borrow.Author.Tests.{lt-ltb, le-ltb, le-leb, lt-leb, eq-eqb, ne-eqb}
+use borrow.Author.Tests.{lt-ltb, le-ltb, le-leb, lt-leb}
 use Rattle.shape.specs.declared.Shape.{Shape}
 use Rattle.shape.specs.Limits.{within}
 use Rattle.shape.specs.Layout.{bookWords}
@@ -42,39 +42,23 @@ module _ (ws : List ℕ) where
   unfolding openedNumber bookView
   opened-short h = rw (lt-ltb (length ws) 8 h)
 
-  module _ (long : 8 ≤ length ws) where
-    pub opened-unsound : soundHead ws ≡ false → openedNumber ws ≡ 7
-    unfolding openedNumber bookView
-    opened-unsound h = rw (le-ltb (length ws) 8 long, h)
-
-    module _ (sound : soundHead ws ≡ true) where
-      pub opened-misfit : (length ws ≡ bookWords (shapeOf ws) → ⊥) → openedNumber ws ≡ 2
-      unfolding openedNumber bookView
-      opened-misfit h = rw (le-ltb (length ws) 8 long, sound, ne-eqb (length ws) (bookWords (shapeOf ws)) h)
-
-      pub opened-whole : length ws ≡ bookWords (shapeOf ws) → openedNumber ws ≡ 0
-      unfolding openedNumber bookView
-      opened-whole h = rw (le-ltb (length ws) 8 long, sound, eq-eqb (length ws) (bookWords (shapeOf ws)) h)
-
-  -- ---- the conditions of the head, one by one
+  pub opened-unsound : 8 ≤ length ws → soundHead ws ≡ false → openedNumber ws ≡ 7
+  unfolding openedNumber bookView
+  opened-unsound long h = rw (le-ltb (length ws) 8 long, h)
 
   pub head-outside : within (getD ws 0 0) (getD ws 1 0) (getD ws 2 0) (getD ws 3 0) ≡ false → soundHead ws ≡ false
   unfolding soundHead
   head-outside h = rw h
 
-  module _ (inside : within (getD ws 0 0) (getD ws 1 0) (getD ws 2 0) (getD ws 3 0) ≡ true) where
-    pub head-ahead : maxClock < clockOf ws → soundHead ws ≡ false
+  -- with a shape within its limits the clock is looked at, then the last three words, then the length
+  module _ {s : Shape} (h : Shaped ws s) where
+    pub opened-ahead : maxClock < clockOf ws → openedNumber ws ≡ 7
     unfolding soundHead
-    head-ahead h = rw (inside, lt-leb (clockOf ws) maxClock h)
+    opened-ahead ahead = opened-unsound (h .long) (rw (h .inside, lt-leb (clockOf ws) maxClock ahead))
 
-    module _ (early : clockOf ws ≤ maxClock) where
-      pub head-marked : isBlank ws ≡ false → soundHead ws ≡ false
-      unfolding soundHead
-      head-marked h = rw (inside, le-leb (clockOf ws) maxClock early, h)
-
-      pub head-sound : isBlank ws ≡ true → soundHead ws ≡ true
-      unfolding soundHead
-      head-sound h = rw (inside, le-leb (clockOf ws) maxClock early, h)
+    pub opened-rest : clockOf ws ≤ maxClock → openedNumber ws ≡ cond (not (isBlank ws)) 7 (cond (not (eqb (length ws) (bookWords s))) 2 0)
+    unfolding openedNumber bookView soundHead
+    opened-rest early = rw (le-ltb (length ws) 8 (h .long), h .inside, le-leb (clockOf ws) maxClock early, h .same)
 
 -- ---- writing the head
 

@@ -3,10 +3,11 @@
 use mathlib.Core.Bool.{Bool, true, false, cond, not, _||_}
 use mathlib.Core.Path.{_≡_, refl, sym, ap, _∙_}
 use mathlib.Core.List.{List, [], _∷_, _++_}
-use Prim.Native.Nat.{ℕ, _+_, _%_, _^_, _≤_, _<_}
+use Prim.Native.Nat.{ℕ, _+_, _^_, _≤_, _<_}
 use native.Mathlib.Omega.{arith}
 use lib.Dec.{ltb, eqb}
 use lib.ListN.{length, drop}
+use borrow.Author.Tests.{lt-ltb, le-ltb}
 use Rattle.shape.specs.declared.Shape.{Shape}
 use Rattle.shape.specs.LimitsLaws.{Limits}
 use Rattle.shape.specs.Layout.{bookWords}
@@ -20,7 +21,6 @@ use Rattle.model.specs.Sound.{allFrom, maxClock, soundHead, soundBlock}
 use Rattle.model.specs.Calls.{View, firstOf, opened, refusals, bookView}
 use Rattle.model.specs.Reply.{numberOf}
 use Rattle.laws.specs.Proper.{Proper, Whole}
-use Rattle.laws.specs.Halves.{total-decode, whole-total}
 use Rattle.laws.specs.Refusals.{opened-accepted}
 use Rattle.model.specs.Claim.{ByCall}
 use Rattle.laws.specs.BookWords.{soundHead-limits, soundHead-clock, length-blockPart}
@@ -41,6 +41,14 @@ pub record Open (ws : List ℕ) (s : Shape) (clock : ℕ) : Type 0 where
   pub number : openedNumber ws ≡ 0
   pub same : s ≡ shapeOf ws
   pub now : clock ≡ clockOf ws
+
+-- an open book and a delivery that 3, 4, 8 and 9 do not refuse
+pub record Due (ws : List ℕ) (s : Shape) (clock grade stamp volume : ℕ) : Type 0 where
+  pub book : Open ws s clock
+  pub inside : grade < s .g
+  pub fair : (eqb volume 0 || ltb 65535 volume) ≡ false
+  pub come : stamp ≤ clock
+  pub early : clock ≤ stamp + 2 ^ s .k
 
 -- no refusal has the number 0
 pub numberOf-pos : (r : Refusal) → numberOf r ≡ 0 → ⊥
@@ -97,6 +105,12 @@ viewOf s clock ws = record {
   blockSound = λ grade. soundBlock s (blockPart s grade ws);
   total = λ grade stamp. halfOf (interval s stamp) (decodeBlock s (blockPart s grade ws)) .total;
 }
+
+-- which of 11 and 12 refuses a delivery
+abbrev pub roomRefusal : Shape → List ℕ → ℕ → ℕ → ℕ → ℕ
+roomRefusal s ws grade stamp volume =
+    cond (not (soundBlock s (blockPart s grade ws))) 11
+    (cond (ltb (2 ^ s .m) (halfOf (interval s stamp) (decodeBlock s (blockPart s grade ws)) .total + volume)) 12 0)
 
 -- a call that begins like the others
 abbrev pub Begins : Call → Type 0
@@ -155,8 +169,7 @@ module _ (ws : List ℕ) (s : Shape) (clock : ℕ) (o : Open ws s clock) where
 
   pub delivery-judges : (grade stamp volume : ℕ) → firstRefusal ws (Delivery grade stamp volume)
       ≡ cond (not (ltb grade (s .g))) 3 (cond (eqb volume 0 || ltb 65535 volume) 4 (cond (ltb clock stamp) 8 (cond (late s clock stamp) 9
-      (cond (not (soundBlock s (blockPart s grade ws))) 11
-      (cond (ltb (2 ^ s .m) (halfOf (interval s stamp) (decodeBlock s (blockPart s grade ws)) .total + volume)) 12 0)))))
+      (roomRefusal s ws grade stamp volume))))
   unfolding refusals
   delivery-judges grade stamp volume = rest-judges (Delivery grade stamp volume) tt
 
@@ -171,13 +184,18 @@ module _ (ws : List ℕ) (s : Shape) (clock : ℕ) (o : Open ws s clock) where
     pub open-inside : InBook s grade ws
     open-inside = record { proper = open-proper; size = open-size; inside = h }
 
-    module _ (sound : soundBlock s (blockPart s grade ws) ≡ true) where
-      pub open-whole : Whole s (blockPart s grade ws)
-      open-whole = record { proper = open-proper; size = length-blockPart s grade h ws open-size; sound = sound }
+    pub open-whole : soundBlock s (blockPart s grade ws) ≡ true → Whole s (blockPart s grade ws)
+    open-whole sound = record { proper = open-proper; size = length-blockPart s grade h ws open-size; sound = sound }
 
-      -- what a half holds is at most 2^M
-      pub open-total : (j : ℕ) → halfOf j (decodeBlock s (blockPart s grade ws)) .total ≤ 2 ^ s .m
-      open-total j = rw (total-decode s j (blockPart s grade ws)) (whole-total s (blockPart s grade ws) open-whole (j % 2) (omega arith))
+-- a delivery that 3, 4, 8 and 9 do not refuse is of a grade of the book, and 11 and 12 are left
+module _ {ws : List ℕ} {s : Shape} {clock grade stamp volume : ℕ} (d : Due ws s clock grade stamp volume) where
+  pub due-inside : InBook s grade ws
+  due-inside = open-inside ws s clock (d .book) grade (d .inside)
+
+  pub due-judges : firstRefusal ws (Delivery grade stamp volume) ≡ roomRefusal s ws grade stamp volume
+  due-judges =
+      delivery-judges ws s clock (d .book) grade stamp volume
+      ∙ rw (lt-ltb grade (s .g) (d .inside), d .fair, le-ltb clock stamp (d .come), le-ltb (stamp + 2 ^ s .k) clock (d .early))
 
 -- an accepted call found the book open
 pub judges-open : (ws : List ℕ) (s : Shape) (clock : ℕ) (call : Call) → Begins call → Judges ws call (Book s clock) → Open ws s clock

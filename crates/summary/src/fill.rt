@@ -1,9 +1,8 @@
 // A delivery into one block, level by level, each handed on as that part of the block.
 use shape::Shape;
 ghost use mathlib.Core.Path.{_≡_};
-ghost use Prim.Native.Nat.{_%_, _≤_};
 ghost use Rattle.model.specs.Level.{insert};
-ghost use Rattle.model.specs.Block.{interval, offsetOf, deliver};
+ghost use Rattle.model.specs.Block.{deliver};
 ghost use Rattle.model.specs.Words.{levelPart, decodeLevel, encodeLevel, decodeBlock, encodeBlock};
 ghost use Rattle.laws.specs.BlockWrites.{withLevel};
 ghost use Rattle.laws.specs.Proper.{Open};
@@ -18,22 +17,6 @@ fn insert_at(block: &mut [u32], s: Shape, parity: u8, i: u8, x: u32, v: u32)
     let a = s.level_start(parity, i);
     let e = a + s.level_len();
     insert::insert(&mut block[a..e], s, i, x, v);
-}
-
-// The parity of the half that serves a tick's interval.
-fn parity_of(s: Shape, t: u32) -> u8
-    requires { ⌜ s .k ≤ 20 ⌝ }
-    ensures { λ r. ⌜ r ≡ interval s t % 2 ⌝ }
-{
-    ((t >> s.k) % 2) as u8
-}
-
-// The offset of a tick in its interval.
-fn offset_of(s: Shape, t: u32) -> u32
-    requires { ⌜ s .k ≤ 20 ⌝ }
-    ensures { λ r. ⌜ r ≡ offsetOf s t ⌝ }
-{
-    t % scan::power(s.k)
 }
 
 // Raises the total of the half and inserts into each of its levels.
@@ -56,7 +39,7 @@ pub fn deliver_block(block: &mut [u32], s: Shape, stamp: u32, v: u32)
     requires { ⌜ Takes s stamp v (now block) ⌝ }
     ensures { λ _. ⌜ now (block .exit) ≡ encodeBlock s (deliver s stamp v (decodeBlock s (now (block .entry)))) ⌝ }
 {
-    let parity = parity_of(s, stamp);
-    let x = offset_of(s, stamp);
+    let parity = block::parity(block::interval(s, stamp));
+    let x = block::offset(s, stamp);
     fill(block, s, stamp, parity, x, v);
 }

@@ -32,22 +32,24 @@ fn is_blank(book: &[u32]) -> bool
     book[7] == 0
 }
 
-// A book of this shape: its clock and its length are looked at.
+// A book of this shape: its clock, the last words of its head and its length are looked at.
 fn with_shape(book: &[u32], shape: Shape) -> Opened
     requires { ⌜ Shaped (now book) shape ⌝ }
     ensures { λ r. ⌜ Opens (now (book .entry)) r ⌝ }
 {
     let clock = book[4];
+    let blank = is_blank(book);
+    let whole = book.len() == shape.book_len();
     if MAX_CLOCK < clock {
         return Opened::Refused(Refusal::Head);
     }
-    if !is_blank(book) {
-        return Opened::Refused(Refusal::Head);
+    if !blank {
+        Opened::Refused(Refusal::Head)
+    } else if !whole {
+        Opened::Refused(Refusal::Length)
+    } else {
+        Opened::Book { shape, clock }
     }
-    if book.len() != shape.book_len() {
-        return Opened::Refused(Refusal::Length);
-    }
-    Opened::Book { shape, clock }
 }
 
 // Words of any length and content.

@@ -1,5 +1,6 @@
 // The calls on a whole book: make, clock, delivery and question. Each takes words of any length and content and any numbers; a refused call
 // leaves every word.
+mod admit;
 mod fill;
 mod head;
 mod judge;

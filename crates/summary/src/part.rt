@@ -1,7 +1,7 @@
 // The blocks of a book, each handed on as that part of it.
 use shape::Shape;
 ghost use mathlib.Core.Path.{_≡_};
-ghost use Prim.Native.Nat.{_+_, _^_, _≤_, _<_};
+ghost use Prim.Native.Nat.{_+_, _^_};
 ghost use lib.Dec.{ltb};
 ghost use lib.ListN.{length};
 ghost use Rattle.shape.specs.Layout.{bookWords};
@@ -29,13 +29,12 @@ pub fn block_sound(book: &[u32], s: Shape, grade: u32) -> bool
     block::check(block_at(book, s, grade), s)
 }
 
-// The total of a grade's half for the interval of a stamp.
-pub fn total_at(book: &[u32], s: Shape, grade: u32, stamp: u32) -> u64
+// Whether the half of a grade for the interval of a stamp has no room for a volume.
+pub fn block_full(book: &[u32], s: Shape, grade: u32, stamp: u32, volume: u32) -> bool
     requires { ⌜ InBook s grade (now book) ⌝ }
-    ensures { λ r. ⌜ r ≡ halfOf (interval s stamp) (decodeBlock s (blockPart s grade (now (book .entry)))) .total ⌝ }
+    ensures { λ r. ⌜ r ≡ ltb (2 ^ s .m) (halfOf (interval s stamp) (decodeBlock s (blockPart s grade (now (book .entry)))) .total + volume) ⌝ }
 {
-    let j = stamp >> s.k;
-    block::total(block_at(book, s, grade), j)
+    block::is_full(block_at(book, s, grade), s, stamp, volume)
 }
 
 // Whether every block is sound.

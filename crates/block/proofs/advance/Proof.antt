@@ -1,6 +1,6 @@
 -- The three branches are the three cases of what the clock empties.
-use mathlib.Core.Path.{_≡_, sym, _∙_}
-use Prim.Native.Nat.{_+_}
+use mathlib.Core.Path.{_≡_, sym, ap, _∙_}
+use Prim.Native.Nat.{ℕ, _+_, _%_}
 use native.Mathlib.Omega.{arith}
 use borrow.Author.Needs.{needs}
 use Rattle.model.specs.Block.{interval}
@@ -28,8 +28,8 @@ returns c =
 add-if2 : tie.Need-add-if2
 add-if2 c = let d = c .before .before .before .before in omega (arith, interval-small (d .args .s) (d .args .old) (omega arith) (omega arith))
 
-cast-clear-half : tie.Need-cast-clear-half
-cast-clear-half c = search needs
+parity-requires : tie.Need-parity-requires
+parity-requires c κs = search needs
 
 clear-half-requires : tie.Need-clear-half-requires
 clear-half-requires c κs = search needs
@@ -39,11 +39,13 @@ same-length c = search needs
 
 returns-2 : tie.Need-returns-2
 returns-2 c =
-    let n = c .before .before .before .before .before .before in
+    let n = c .before .before .before .before .before .before .before in
     let d = n .before .before .before in
     let a = d .args in
     let next : interval (a .s) (a .new) ≡ interval (a .s) (a .old) + 1 = omega arith in
-    c .before .before .clear-half .ensures ∙ rw (n .interval2 .ensures) (emptied-next (a .s) (a .block .now) (d .pre) (a .old) (a .new) next)
+    let p = c .before .before .before .parity in
+    let half : p .result ≡ interval (a .s) (a .new) % 2 = p .ensures ∙ ap (λ (j : ℕ). j % 2) (n .interval2 .ensures) in
+    c .before .before .clear-half .ensures ∙ rw half (emptied-next (a .s) (a .block .now) (d .pre) (a .old) (a .new) next)
 
 clear-requires : tie.Need-clear-requires
 clear-requires c κs = search needs
@@ -66,7 +68,7 @@ advance-spec =
     interval-requires-2
     returns
     add-if2
-    cast-clear-half
+    parity-requires
     clear-half-requires
     same-length
     returns-2

@@ -3,7 +3,6 @@ use mathlib.Core.Path.{_≡_, sym, ap, _∙_}
 use Prim.Native.Nat.{ℕ, suc, _-_, _%_}
 use native.Mathlib.Omega.{arith}
 use lib.ListN.{getD}
-use lib.Pow.{shl-exact}
 use borrow.Author.Tests.{not-true, not-false}
 use borrow.Author.Needs.{needs}
 use Rattle.model.specs.Sound.{soundHalf}
@@ -13,10 +12,10 @@ use Rattle.block.proofs.check_half.Statement.{statement}
 use Rattle.block.proofs.check_half.Tie as tie
 
 abbrev Inv-loop : tie.InvT-loop
-Inv-loop block s parity total most level₀ level = soundFrom s parity block level ≡ soundHalf s parity block
+Inv-loop block s parity total level₀ level = soundFrom s parity block level ≡ soundHalf s parity block
 
 abbrev μ-loop : tie.MeasureT-loop
-μ-loop block s parity total most level₀ level = suc (s .last) - level
+μ-loop block s parity total level₀ level = suc (s .last) - level
 
 total-is : (c : tie.After-total Inv-loop μ-loop) → let a = c .before .before .args in c .total .result ≡ getD (a .block .now) (a .parity) 0
 total-is c =
@@ -33,21 +32,18 @@ level-is c = rw (sym (c .before .level-at .ensures), sym (total-is (c .before .b
 total-requires : tie.Need-total-requires Inv-loop μ-loop
 total-requires c κs = omega (arith, blockWords-halves (c .before .args .s), c .before .pre .0 .size)
 
-cast-most : tie.Need-cast-most Inv-loop μ-loop
-cast-most c = search needs
-
-shl-most : tie.Need-shl-most Inv-loop μ-loop
-shl-most c = search needs
+capacity-requires : tie.Need-capacity-requires Inv-loop μ-loop
+capacity-requires c κs = search needs
 
 returns : tie.Need-returns Inv-loop μ-loop
 returns c =
     let d = c .before .before .before .before in
-    soundHalf-over (d .args .s) (d .args .parity) (d .args .block .now) (omega (arith, total-is (c .before .before), shl-exact {a = 1} 1 (d .args .s .m) 64 (omega arith) (omega arith)))
+    soundHalf-over (d .args .s) (d .args .parity) (d .args .block .now) (omega (arith, total-is (c .before .before), c .before .capacity .ensures))
 
 loop-holds : tie.Need-loop-holds Inv-loop μ-loop
 loop-holds c =
     let d = c .before .before .before .before in
-    soundFrom-all (d .args .s) (d .args .parity) (d .args .block .now) (omega (arith, total-is (c .before .before), shl-exact {a = 1} 1 (d .args .s .m) 64 (omega arith) (omega arith)))
+    soundFrom-all (d .args .s) (d .args .parity) (d .args .block .now) (omega (arith, total-is (c .before .before), c .before .capacity .ensures))
 
 level-at-requires : tie.Need-level-at-requires Inv-loop μ-loop
 level-at-requires c κs = search needs
@@ -90,8 +86,7 @@ check-half-spec =
     Inv-loop
     μ-loop
     total-requires
-    cast-most
-    shl-most
+    capacity-requires
     returns
     loop-holds
     level-at-requires

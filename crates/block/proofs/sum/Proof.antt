@@ -1,7 +1,8 @@
 -- The sum from the serving level, and the current half's total where the window opens in another interval.
-use mathlib.Core.Path.{_≡_, sym, _∙_}
-use Prim.Native.Nat.{_%_, _^_, _≤_}
+use mathlib.Core.Path.{_≡_, sym, ap, _∙_}
+use Prim.Native.Nat.{ℕ, _%_, _^_, _≤_}
 use native.Mathlib.Omega.{arith}
+use lib.ListN.{getD}
 use borrow.Author.Tests.{eq-eqb, ne-eqb}
 use borrow.Author.Needs.{needs}
 use Rattle.model.specs.Block.{interval, offsetOf, sumFrom, serving}
@@ -13,20 +14,23 @@ use Rattle.block.proofs.sum.Tie as tie
 
 -- the level's sum is that of the definition
 sum-is : (c : tie.After-sum-from) →
-    let a = c .before .before .before .before .before .before .before .args in
+    let a = c .before .before .before .before .before .before .before .before .args in
     let x = offsetOf (a .s) (a .start) in
     c .sum-from .result ≡ sumFrom x (serving x (decodeHalf (a .s) (interval (a .s) (a .start) % 2) (a .block .now) .levels) .buckets)
 sum-is c =
     let f = c .before .before in
-    rw (← f .before .before .before .interval .ensures, ← f .before .offset .ensures, ← f .finest .ensures .1, ← c .before .level-at .ensures) (c .sum-from .ensures)
+    let p = f .before in
+    let a = p .before .before .before .before .before .args in
+    let at : p .before .offset .result ≡ offsetOf (a .s) (a .start) = p .before .offset .ensures in
+    rw (← p .before .before .before .interval .ensures, ← p .parity .ensures, ← at, ← f .finest .ensures .1, ← c .before .level-at .ensures) (c .sum-from .ensures)
 
 sum-low : (c : tie.After-sum-from) → c .sum-from .result ≤ 2 ^ 24
 sum-low c =
     let f = c .before .before in
-    let d = f .before .before .before .before .before in
-    let parity = f .before .before .before .interval .result % 2 in
+    let p = f .before in
+    let d = p .before .before .before .before .before in
     rw (c .sum-from .ensures, c .before .level-at .ensures)
-    (sum-small (d .args .s) (d .args .block .now) (d .pre) parity (omega arith) (f .finest .result) (f .finest .ensures .0) (f .before .offset .result))
+    (sum-small (d .args .s) (d .args .block .now) (d .pre) (p .parity .result) (omega arith) (f .finest .result) (f .finest .ensures .0) (p .before .offset .result))
 
 interval-requires : tie.Need-interval-requires
 interval-requires c κs = search needs
@@ -37,8 +41,8 @@ interval-requires-2 c κs = search needs
 offset-requires : tie.Need-offset-requires
 offset-requires c κs = search needs
 
-cast-parity : tie.Need-cast-parity
-cast-parity c = search needs
+parity-requires : tie.Need-parity-requires
+parity-requires c κs = search needs
 
 finest-requires : tie.Need-finest-requires
 finest-requires c κs = search needs
@@ -48,9 +52,9 @@ level-at-requires c κs = search needs
 
 sum-from-requires : tie.Need-sum-from-requires
 sum-from-requires c κs =
-    let d = c .before .before .before .before .before .before in
+    let d = c .before .before .before .before .before .before .before in
     let a = d .args in
-    let parity = c .before .before .before .before .interval .result % 2 in
+    let parity = c .before .before .parity .result in
     let i = c .before .finest .result in
     let low = c .before .finest .ensures .0 in
     let half : parity ≤ 1 = omega arith in
@@ -60,27 +64,28 @@ sum-from-requires c κs =
 
 returns : tie.Need-returns
 returns c =
-    let f = c .before .before .before in
-    let a = f .before .before .before .before .before .args in
-    let same = sym (f .before .before .before .interval .ensures) ∙ c .if1 .taken ∙ f .before .before .interval2 .ensures in
+    let i = c .before .before .before .before .before .before in
+    let a = i .before .before .before .args in
+    let same = sym (i .before .interval .ensures) ∙ c .if1 .taken ∙ i .interval2 .ensures in
     rw (answer-decode (a .s) (a .clock) (a .start) (a .block .now), eq-eqb _ _ same) (sum-is (c .before))
 
 total-requires : tie.Need-total-requires
-total-requires c κs = let d = c .before .before .before .before .before .before .before .before in omega (arith, blockWords-halves (d .args .s), d .pre .size)
+total-requires c κs = let d = c .before .before .before .before .before .before .before .before .before in omega (arith, blockWords-halves (d .args .s), d .pre .size)
 
 add-result : tie.Need-add-result
 add-result c =
-    let d = c .before .before .before .before .before .before .before .before .before in
+    let d = c .before .before .before .before .before .before .before .before .before .before in
     let small : c .total .result ≤ 2 ^ 24 = rw (c .total .ensures) (total-small (d .args .s) (d .args .block .now) (d .pre) _ (omega arith)) in
     omega (arith, sum-low (c .before .before))
 
 returns-2 : tie.Need-returns-2
 returns-2 c =
-    let f = c .before .before .before .before in
-    let i = f .before .before in
+    let i = c .before .before .before .before .before .before .before in
     let a = i .before .before .before .args in
     let apart : (interval (a .s) (a .start) ≡ interval (a .s) (a .clock)) → ⊥ = λ q. c .before .if1 .left (i .before .interval .ensures ∙ q ∙ sym (i .interval2 .ensures)) in
-    rw (answer-decode (a .s) (a .clock) (a .start) (a .block .now), ne-eqb _ _ apart, ← sum-is (c .before .before), ← i .interval2 .ensures, ← c .total .ensures)
+    let current : c .total .result ≡ getD (a .block .now) (interval (a .s) (a .clock) % 2) 0 =
+    c .total .ensures ∙ ap (λ (j : ℕ). getD (a .block .now) (j % 2) 0) (i .interval2 .ensures) in
+    rw (answer-decode (a .s) (a .clock) (a .start) (a .block .now), ne-eqb _ _ apart, ← sum-is (c .before .before), ← current)
 
 pub sum-spec : {M : Type 1} → statement M
 sum-spec =
@@ -89,7 +94,7 @@ sum-spec =
     interval-requires
     interval-requires-2
     offset-requires
-    cast-parity
+    parity-requires
     finest-requires
     level-at-requires
     sum-from-requires

@@ -54,7 +54,7 @@ insert-at-requires c κs =
     let d = c .before .before .before .before .before .before in
     let a = d .args in
     let e = l .inv .2 (a .block .now) refl (d .pre) in
-    let low = c .before .if1 .taken in (
+    let low : l .i ≤ a .s .last = omega (arith, c .before .if1 .taken) in (
       rw e (level-in (a .s) (a .stamp) (a .parity) (a .x) (a .v) (a .block .now) (d .pre) (l .i) low),
       rw e (level-takes (a .s) (a .stamp) (a .parity) (a .x) (a .v) (a .block .now) (d .pre) (l .i) low),
     )
@@ -68,8 +68,8 @@ loop-less c = search needs
 loop-again : tie.Need-loop-again Inv-loop μ-loop
 loop-again c =
     let l = c .before .before .before .before .before .before .loop in
-    let low = c .before .before .before .before .if1 .taken in
-    let a = c .before .before .before .before .before .before .before .before .before .args in (
+    let a = c .before .before .before .before .before .before .before .before .before .args in
+    let low : l .i ≤ a .s .last = omega (arith, c .before .before .before .before .if1 .taken) in (
       omega arith,
       c .before .before .insert-at .kept .0 ∙ l .inv .1,
       λ ws e f. rw (add-one (l .i)) (c .before .before .insert-at .ensures

@@ -1,4 +1,5 @@
 -- The constructor tells whether the shape is within its limits; the rest is `with_shape`.
+use native.Mathlib.Omega.{arith}
 use borrow.Author.Needs.{needs}
 use mathlib.Core.Path.{sym, ap, _∙_}
 use Rattle.shape.specs.Limits.{replyOf}
@@ -8,7 +9,7 @@ use Rattle.summary.proofs.head.open.Statement.{statement}
 use Rattle.summary.proofs.head.open.Tie as tie
 
 returns : tie.Need-returns
-returns c = opened-short _ (c .if1 .taken)
+returns c = opened-short (c .before .before .args .book .now) (omega (arith, c .if1 .taken))
 
 shared-slice-read-new : tie.Need-shared-slice-read-new
 shared-slice-read-new c = search needs

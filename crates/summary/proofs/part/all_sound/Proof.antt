@@ -22,6 +22,11 @@ Inv-loop book s count grade₀ grade = allLeft (tested s book) grade (s .g) ≡ 
 abbrev μ-loop : tie.MeasureT-loop
 μ-loop book s count grade₀ grade = s .g - grade
 
+-- each turn tests the block of its own grade
+seen : (c : tie.After-block-sound Inv-loop μ-loop) → let a = c .before .before .before .before .before .args in
+    tested (a .s) (a .book .now) (c .before .before .loop .grade) ≡ c .block-sound .result
+seen c = sym (c .block-sound .ensures)
+
 cast-count : tie.Need-cast-count Inv-loop μ-loop
 cast-count c = search needs
 
@@ -35,7 +40,7 @@ returns : tie.Need-returns Inv-loop μ-loop
 returns c =
     let l = c .before .before .before .loop in
     let a = c .before .before .before .before .before .before .args in
-    rw (allLeft-step (tested (a .s) (a .book .now)) (l .grade) (a .s .g) (c .before .before .loop-test .taken), sym (c .before .block-sound .ensures) ∙ not-true _ (c .if1 .taken)) at (l .inv)
+    rw (allLeft-step (tested (a .s) (a .book .now)) (l .grade) (a .s .g) (c .before .before .loop-test .taken), seen (c .before) ∙ not-true _ (c .if1 .taken)) at (l .inv)
 
 add-grade : tie.Need-add-grade Inv-loop μ-loop
 add-grade c = search needs
@@ -47,7 +52,7 @@ loop-again : tie.Need-loop-again Inv-loop μ-loop
 loop-again c =
     let l = c .before .before .before .loop in
     let a = c .before .before .before .before .before .before .args in
-    rw (allLeft-step (tested (a .s) (a .book .now)) (l .grade) (a .s .g) (c .before .before .loop-test .taken), sym (c .before .block-sound .ensures) ∙ not-false _ (c .if1 .left)) at (l .inv)
+    rw (allLeft-step (tested (a .s) (a .book .now)) (l .grade) (a .s .g) (c .before .before .loop-test .taken), seen (c .before) ∙ not-false _ (c .if1 .left)) at (l .inv)
 
 returns-2 : tie.Need-returns-2 Inv-loop μ-loop
 returns-2 c =

@@ -205,7 +205,8 @@ fn see_bucket(t: Seen, b: Slot, least: u32) -> Seen
     }
 }
 
-// The slot at the front of words. A loop that moves the front is compiled to whole reads, and one that moves an index is not.
+// The slot at the front of words. A loop that moves the front reads four slots at once when it is compiled; one that moves an index
+// reads word by word.
 fn first_slot(rest: &[u32]) -> Slot
     requires { ⌜ 3 ≤ length (now rest) ⌝ }
     ensures { λ r. ⌜ content r ≡ front (now (rest .entry)) ⌝ }

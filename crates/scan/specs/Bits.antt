@@ -32,6 +32,7 @@ pub or-tested : (a b : ℕ) → eqb (bitOr a b) 0 ≡ (eqb a 0 && eqb b 0)
 or-tested a b =
     tests-equal (eqb-tests (bitOr a b) 0) (tests-same (and-tests (eqb-tests a 0) (eqb-tests b 0)) (λ p. none-or a b (p .0) (p .1)) (or-none a b))
 
+-- w is a power of two
 pub record PowerOf (w : ℕ) : Type 0 where
   pub size : ℕ
   pub same : w ≡ 2 ^ size

@@ -12,7 +12,7 @@ use Rattle.scan.specs.declared.Seen.{Seen}
 abbrev pub unseen : ℕ → Seen  -- before the first bucket
 unseen first = record { end = first; faults = 0; reach = 0; heavy = 0; short = 0; low = 0; high = 0 }
 
-abbrev pub below : ℕ → ℕ → ℕ
+abbrev pub below : ℕ → ℕ → ℕ  -- x below y, as a number
 below x y = cond (ltb x y) 1 0
 
 abbrev pub less : ℕ → ℕ  -- the word before w; the one before 0 is the last
@@ -22,7 +22,7 @@ less (suc w) = w
 abbrev pub spread : Bucket → ℕ  -- the weight of a bucket that is longer than 1
 spread b = cond (eqb (b .width) 1) 0 (b .weight)
 
-unfoldable pub seeSingle : Seen → Bucket → Seen
+unfoldable pub seeSingle : Seen → Bucket → Seen  -- a bucket of level 0
 seeSingle t b = record {
   end = (b .offset + 1) % 2 ^ 32;
   faults = bitOr (t .faults) (bitXor (b .width) 1);
@@ -33,7 +33,7 @@ seeSingle t b = record {
   high = t .high + b .weight / 65536;
 }
 
-unfoldable pub seeBucket : ℕ → Seen → Bucket → Seen
+unfoldable pub seeBucket : ℕ → Seen → Bucket → Seen  -- a bucket of a level from 1 on, whose weight is to be `least` or more
 seeBucket least t b =
     let gap = bitXor (t .end) (b .offset) in
     let before = less (b .width) in

@@ -35,6 +35,7 @@ none-below x y = by-lt {a = 1} {b = 0} x y (λ (z : ℕ). z ≡ 0 → y ≤ x) (
 below-none : (x y : ℕ) → y ≤ x → below x y ≡ 0
 below-none x y h = rw (le-ltb x y h)
 
+-- a length that the number before it, below 2 ^ k, shows to be within 2 ^ k
 record Length (k w : ℕ) : Type 0 where
   some : 0 < w
   before : less w ≡ w - 1
@@ -79,6 +80,7 @@ module _ (k i count : ℕ) (few : k ≤ 20) where
   abbrev least : ℕ
   least = leastOf count i
 
+  -- a bucket that passed is sound, and those before it had passed
   bucket-sound : (t : Seen) (b : Bucket) → Passed k i (seeBucket least t b) → Passed k i t × SoundBucket k i count (t .end) b
   unfolding seeBucket
   bucket-sound t b p =
@@ -101,6 +103,7 @@ module _ (k i count : ℕ) (few : k ≤ 20) where
         },
       )
 
+  -- a sound bucket passes
   sound-bucket : (t : Seen) (b : Bucket) → Passed k i t → SoundBucket k i count (t .end) b → Passed k i (seeBucket least t b)
   unfolding seeBucket
   sound-bucket t b p s =
@@ -126,6 +129,7 @@ module _ (k i count : ℕ) (few : k ≤ 20) where
 -- ---- one bucket of level 0
 
 module _ (k i : ℕ) where
+  -- a bucket that passed is sound, and those before it had passed
   single-sound : (t : Seen) (b : Bucket) → Passed k i (seeSingle t b) → Passed k i t × Single k (t .end) b
   unfolding seeSingle
   single-sound t b p =
@@ -140,6 +144,7 @@ module _ (k i : ℕ) where
         },
       )
 
+  -- a sound bucket passes
   sound-single : (t : Seen) (b : Bucket) → Passed k i t → Single k (t .end) b → Passed k i (seeSingle t b)
   unfolding seeSingle
   sound-single t b p s = record {
@@ -249,6 +254,7 @@ seen-upper (suc j) first bs h = refl
 
 -- ---- soundness
 
+-- what the tests of a level ask
 abbrev Found : ℕ → ℕ → ℕ → Seen → Type 0
 Found k i first t = (first < 2 ^ k) × Passed k i t × (0 < i → t .end ≡ 2 ^ k)
 

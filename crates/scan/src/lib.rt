@@ -10,7 +10,7 @@ ghost use Rattle.model.specs.Words.{slot, slots, decodeLevel};
 ghost use Rattle.model.specs.Block.{sumFrom};
 ghost use Rattle.model.specs.Sound.{implies, zeros, soundLevel};
 ghost use Rattle.laws.specs.Place.{place};
-ghost use Rattle.scan.specs.Slot.{content};
+ghost use Rattle.scan.specs.Slot.{content, front};
 ghost use Rattle.scan.specs.Pass.{unseen, below, spread, seeSingle, seeBucket, seeAll, leastOf, seenLevel, weightSeen, soundSeen};
 
 // The words of one slot.
@@ -205,14 +205,29 @@ fn see_bucket(t: Seen, b: Slot, least: u32) -> Seen
     }
 }
 
+// The slot at the front of words. A loop that moves the front reads four slots at once when it is compiled; one that moves an index
+// reads word by word.
+fn first_slot(rest: &[u32]) -> Slot
+    requires { ⌜ 3 ≤ length (now rest) ⌝ }
+    ensures { λ r. ⌜ content r ≡ front (now (rest .entry)) ⌝ }
+{
+    Slot {
+        offset: rest[0],
+        width: rest[1],
+        weight: rest[2],
+    }
+}
+
 fn see_singles(level: &[u32], count: usize) -> Seen
     requires { ⌜ (2 + 3 * count ≤ length (now level)) × (count ≤ 1024) ⌝ }
     ensures { λ r. ⌜ r ≡ seeAll seeSingle (unseen (getD (now (level .entry)) 1 0)) (slots (now (level .entry)) 0 count) ⌝ }
 {
     let mut t = start(level[1]);
+    let mut rest = &level[2..];
     let mut j: usize = 0;
     while j < count {
-        t = see_single(t, slot_at(level, j));
+        t = see_single(t, first_slot(rest));
+        rest = &rest[3..];
         j += 1;
     }
     t
@@ -223,9 +238,11 @@ fn see_buckets(level: &[u32], count: usize, least: u32) -> Seen
     ensures { λ r. ⌜ r ≡ seeAll (seeBucket least) (unseen (getD (now (level .entry)) 1 0)) (slots (now (level .entry)) 0 count) ⌝ }
 {
     let mut t = start(level[1]);
+    let mut rest = &level[2..];
     let mut at: usize = 0;
     while at < count {
-        t = see_bucket(t, slot_at(level, at), least);
+        t = see_bucket(t, first_slot(rest), least);
+        rest = &rest[3..];
         at += 1;
     }
     t

@@ -10,10 +10,10 @@ use lib.Dec.{ltb}
 use lib.ListN.{length, getD, take, drop}
 use lib.Seq.{split-at}
 use Rattle.model.specs.Level.{Bucket}
-use Rattle.model.specs.Words.{slot, slots}
+use Rattle.model.specs.Words.{slot, slots, decodeLevel}
 use Rattle.laws.specs.Cases.{by-lt}
 use Rattle.laws.specs.Rise.{Rising}
-use Rattle.laws.specs.SoundFacts.{Chained, SoundBuckets}
+use Rattle.laws.specs.SoundFacts.{Chained, SoundBuckets, slots-length}
 
 abbrev pub place : ℕ → List Bucket → ℕ  -- how many leading buckets end at or before offset x
 place x [] = 0
@@ -95,3 +95,19 @@ pub slots-getD : (ws : List ℕ) (j c m : ℕ) (none : Bucket) → m < c → get
 slots-getD ws j zero m none h = absurd (omega arith)
 slots-getD ws j (suc c) zero none h = rw (add-zero j)
 slots-getD ws j (suc c) (suc m) none h = let e : j + suc m ≡ j + 1 + m = omega arith in rw e (slots-getD ws (j + 1) c m none (omega arith))
+
+-- so the bucket of a slot tells whether the place among all is past it
+module _ (ws : List ℕ) (x m : ℕ) (h : m < getD ws 0 0) where
+  here : getD (slots ws 0 (getD ws 0 0)) m (slot ws m) ≡ slot ws m
+  here = let e : 0 + m ≡ m = omega arith in rw e at (slots-getD ws 0 (getD ws 0 0) m (slot ws m) h)
+
+  inside : m < length (slots ws 0 (getD ws 0 0))
+  inside = omega (arith, slots-length ws 0 (getD ws 0 0))
+
+  pub slot-most : x < endOf (slot ws m) → place x (decodeLevel ws .buckets) ≤ m
+  unfolding decodeLevel
+  slot-most past = place-most (slot ws m) x (slots ws 0 (getD ws 0 0)) m inside (rw here past)
+
+  pub slot-least : EndsRise 0 (decodeLevel ws .buckets) → endOf (slot ws m) ≤ x → m < place x (decodeLevel ws .buckets)
+  unfolding decodeLevel
+  slot-least rises ended = place-least (slot ws m) x 0 (slots ws 0 (getD ws 0 0)) m rises inside (rw here ended)

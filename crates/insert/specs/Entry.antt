@@ -16,7 +16,7 @@ use Rattle.laws.specs.Cases.{eq-or-ne}
 use Rattle.laws.specs.Batch.{Under, Over, insert-below, insert-put, insert-new}
 use Rattle.laws.specs.LevelWords.{length-slots, encode-decode-sound}
 use Rattle.laws.specs.LevelWrites.{slot-encode, set-weight}
-use Rattle.laws.specs.Place.{place}
+use Rattle.laws.specs.Place.{place, EndsRise, sound-rises}
 use Rattle.laws.specs.Proper.{Open}
 use Rattle.laws.specs.Rise.{Rising}
 use Rattle.laws.specs.SoundFacts.{Chained, SoundBuckets, SoundLevel, words-tests}
@@ -38,6 +38,10 @@ module _ {s : Shape} {i x v : ℕ} {ws : List ℕ} (o : Open s i x v ws) where
   pub few : getD ws 0 0 ≤ s .n
   unfolding decodeLevel
   few = omega (arith, sound .few, length-slots ws 0 (getD ws 0 0))
+
+  -- what a search asks
+  pub searchable : (2 + 3 * getD ws 0 0 ≤ length ws) × EndsRise 0 (decodeLevel ws .buckets)
+  searchable = (omega (arith, few, o .size), sound-rises (s .k) i (decodeLevel ws .first) (decodeLevel ws .buckets) (sound .parts))
 
   -- x stands below F
   pub below : x < getD ws 1 0 → ws ≡ encodeLevel (s .n) (insert (s .n) i x v (decodeLevel ws))

@@ -9,7 +9,7 @@ ghost use Rattle.shape.specs.Layout.{levelWords};
 ghost use Rattle.model.specs.Words.{slot, slots, decodeLevel};
 ghost use Rattle.model.specs.Block.{sumFrom};
 ghost use Rattle.model.specs.Sound.{implies, zeros, soundLevel};
-ghost use Rattle.laws.specs.Place.{place};
+ghost use Rattle.laws.specs.Place.{place, EndsRise};
 ghost use Rattle.scan.specs.Slot.{content, front};
 ghost use Rattle.scan.specs.Pass.{unseen, below, spread, seeSingle, seeBucket, seeAll, leastOf, seenLevel, weightSeen, soundSeen};
 
@@ -53,20 +53,23 @@ fn end(b: Slot) -> u64
     long(b.offset) + long(b.width)
 }
 
-// How many leading buckets end at or before offset x: the slot of the first that ends past it, or the count.
+// How many leading buckets end at or before offset x: the slot of the first that ends past it, or the count. The slots before `low` end
+// at or before x, those from `high` on end past it.
 pub fn find(level: &[u32], x: u32) -> usize
-    requires { ⌜ 2 + 3 * getD (now level) 0 0 ≤ length (now level) ⌝ }
+    requires { ⌜ (2 + 3 * getD (now level) 0 0 ≤ length (now level)) × EndsRise 0 (decodeLevel (now level) .buckets) ⌝ }
     ensures { λ r. ⌜ r ≡ place x (decodeLevel (now (level .entry)) .buckets) ⌝ }
 {
-    let count = wide(level[0]);
-    let mut j: usize = 0;
-    while j < count {
-        if long(x) < end(slot_at(level, j)) {
-            return j;
+    let mut low: usize = 0;
+    let mut high = wide(level[0]);
+    while low < high {
+        let mid = low + (high - low) / 2;
+        if long(x) < end(slot_at(level, mid)) {
+            high = mid;
+        } else {
+            low = mid + 1;
         }
-        j += 1;
     }
-    j
+    low
 }
 
 // What a bucket adds to the sum from offset a on.

@@ -4,6 +4,7 @@ use crate::head::MAX_CLOCK;
 use crate::head::Opened;
 use crate::head::open;
 use crate::part::all_sound;
+use crate::part::block_sound;
 use model::Refusal;
 use shape::Shape;
 ghost use Rattle.model.specs.declared.Call.the-variants as Call;

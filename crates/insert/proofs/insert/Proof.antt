@@ -1,7 +1,7 @@
 -- Below F nothing changes; else the slot found is the one that level 0 or the recursion asks for.
 use native.Mathlib.Omega.{arith}
 use borrow.Author.Needs.{needs}
-use Rattle.insert.specs.Entry.{few, below, found, found-ready}
+use Rattle.insert.specs.Entry.{searchable, below, found, found-ready}
 use Rattle.insert.proofs.insert.Statement.{statement}
 use Rattle.insert.proofs.insert.Tie as tie
 
@@ -23,9 +23,7 @@ returns-2 : tie.Need-returns-2
 returns-2 c = rw (c .before .before .before .before .if2 .taken) (c .before .before .insert-single .ensures)
 
 find-requires : tie.Need-find-requires
-find-requires c κs =
-    let o = c .before .before .before .before .before .pre in
-    omega (arith, few o, o .size)
+find-requires c κs = searchable (c .before .before .before .before .before .pre)
 
 cast-pour : tie.Need-cast-pour
 cast-pour c = search needs

@@ -2,14 +2,12 @@
 use mathlib.Core.Path.{_∙_}
 use native.Mathlib.Omega.{arith}
 use borrow.Author.Needs.{needs}
-use Rattle.insert.specs.Entry.{few, small, found, found-takes, gains, makes}
+use Rattle.insert.specs.Entry.{searchable, small, found, found-takes, gains, makes}
 use Rattle.insert.proofs.insert_single.Statement.{statement}
 use Rattle.insert.proofs.insert_single.Tie as tie
 
 find-requires : tie.Need-find-requires
-find-requires c κs =
-    let o = c .before .before .pre .0 in
-    omega (arith, few o, o .size)
+find-requires c κs = searchable (c .before .before .pre .0)
 
 is-at-requires : tie.Need-is-at-requires
 is-at-requires c κs =

@@ -1,0 +1,19 @@
+//! Comparison under the bench protocol, which can damage no book: the static library beside the
+//! second program, call by call and word by word, on grown books, on sound books that no run of
+//! calls made and on damaged ones, lent whole, short, long or not at all.
+
+#![forbid(unsafe_code)]
+#![warn(missing_docs)]
+
+pub mod book;
+pub mod calls;
+pub mod damage;
+pub mod implementation;
+pub mod options;
+pub mod pair;
+pub mod places;
+pub mod run;
+pub mod shapes;
+pub mod sound;
+pub mod tally;
+pub mod wrapped;

@@ -1,0 +1,129 @@
+//! The same words twice, once for each side, with words around them that no call was lent.
+
+use std::fmt::{self, Display, Formatter};
+use std::ops::Range;
+
+use reference::calls::{self, Answer, Call};
+
+use crate::implementation::Implementation;
+
+/// The answer of a call.
+pub type Reply = Result<Answer, u32>;
+
+/// Both sides' words, equal after each call.
+pub struct Pair {
+    ours: Vec<u32>,
+    theirs: Vec<u32>,
+    before: Vec<u32>,
+    start: usize,
+}
+
+/// The first thing in which the sides differ after a call.
+#[derive(Clone, Debug, PartialEq, Eq)]
+pub struct Difference {
+    /// The call.
+    pub call: Call,
+    /// How many words it was lent.
+    pub lent: usize,
+    /// The second program's answer.
+    pub expected: Reply,
+    /// The answer of the implementation.
+    pub found: Reply,
+    /// The first differing word, where the words differ.
+    pub word: Option<WordDifference>,
+}
+
+/// A word that differs.
+#[derive(Clone, Debug, PartialEq, Eq)]
+pub struct WordDifference {
+    /// Counted from the first lent word; outside of the lent words it is below 0 or too high.
+    pub place: i64,
+    /// The word before the call.
+    pub before: u32,
+    /// The second program's word.
+    pub expected: u32,
+    /// The word of the implementation.
+    pub found: u32,
+}
+
+impl Pair {
+    /// These words for both sides, of which calls are lent some from `start` on.
+    pub fn new(words: Vec<u32>, start: usize) -> Pair {
+        Pair {
+            ours: words.clone(),
+            theirs: words.clone(),
+            before: words,
+            start,
+        }
+    }
+
+    /// The words from the first lent one to the end.
+    pub fn words(&self) -> &[u32] {
+        &self.ours[self.start..]
+    }
+
+    /// Lends both sides so many words for a call and compares answers and all words.
+    pub fn perform(
+        &mut self,
+        implementation: &impl Implementation,
+        lent: usize,
+        call: Call,
+    ) -> Result<Reply, Box<Difference>> {
+        let range = self.start..self.start + lent;
+        self.before.copy_from_slice(&self.ours);
+        let expected = calls::perform(&mut self.ours[range.clone()], call);
+        let found = implementation.perform(&mut self.theirs[range.clone()], call);
+        if expected.is_err() || matches!(call, Call::Query { .. }) {
+            assert!(self.ours == self.before, "the second program: {call:?}");
+        }
+        let word = self.first_difference(&range);
+        if expected == found && word.is_none() {
+            return Ok(expected);
+        }
+        Err(Box::new(Difference {
+            call,
+            lent,
+            expected,
+            found,
+            word,
+        }))
+    }
+
+    fn first_difference(&self, range: &Range<usize>) -> Option<WordDifference> {
+        if self.ours == self.theirs {
+            return None;
+        }
+        let mut pairs = self.ours.iter().zip(&self.theirs);
+        let place = pairs.position(|(ours, theirs)| ours != theirs)?;
+        Some(WordDifference {
+            place: place as i64 - range.start as i64,
+            before: self.before[place],
+            expected: self.ours[place],
+            found: self.theirs[place],
+        })
+    }
+}
+
+impl Display for Difference {
+    fn fmt(&self, f: &mut Formatter<'_>) -> fmt::Result {
+        writeln!(f, "call {:?} on {} words", self.call, self.lent)?;
+        write!(f, "answers {}, expected ", reply(&self.found))?;
+        write!(f, "{}", reply(&self.expected))?;
+        match &self.word {
+            None => write!(f, "\nwords equal"),
+            Some(word) => write!(
+                f,
+                "\nword {} is {}, expected {}, before {}",
+                word.place, word.found, word.expected, word.before
+            ),
+        }
+    }
+}
+
+fn reply(reply: &Reply) -> String {
+    match reply {
+        Ok(Answer::Done) => "ok".to_string(),
+        Ok(Answer::Sum(sum)) => format!("= {sum}"),
+        Err(number) => format!("refused {number}"),
+    }
+}

@@ -1,0 +1,59 @@
+//! The command line, a run through the archive, and what a failed run reports.
+
+use books::implementation::Archive;
+use books::options::Options;
+use books::pair::{Difference, WordDifference};
+use books::run::run;
+use reference::calls::Call;
+
+fn parse(arguments: &[&str]) -> Result<Options, String> {
+    Options::parse(arguments.iter().map(|argument| argument.to_string()))
+}
+
+#[test]
+fn options() {
+    assert_eq!(parse(&[]).unwrap().numbers(), 0..24_000);
+    let options = parse(&["--seed", "7", "--books", "12"]).unwrap();
+    assert_eq!((options.seed, options.numbers()), (7, 0..12));
+    assert_eq!(parse(&["--book", "5"]).unwrap().numbers(), 5..6);
+    for wrong in [&["--seed"][..], &["--books", "many"], &["--lines", "3"]] {
+        assert!(parse(wrong).is_err(), "{wrong:?}");
+    }
+}
+
+#[test]
+fn the_archive_is_equal() {
+    let tally = run(&Archive, 3, 0..2500).unwrap_or_else(|failure| panic!("{failure}"));
+    assert_eq!(tally.books(), 2500);
+    assert!(tally.missing().is_empty(), "{tally}");
+}
+
+#[test]
+fn a_book_depends_on_seed_and_number_alone() {
+    let one = |book| run(&Archive, 3, book..book + 1).expect("equal").to_string();
+    let calls = |text: String| text.split(", ").nth(3).unwrap().to_string();
+    let all: Vec<String> = (0..20).map(|book| calls(one(book))).collect();
+    let again: Vec<String> = (0..20).rev().map(|book| calls(one(book))).collect();
+    assert!(all.iter().eq(again.iter().rev()));
+    assert!(all.iter().any(|calls| *calls != all[0]));
+}
+
+#[test]
+fn a_difference_in_words() {
+    let difference = Difference {
+        call: Call::Clock { clock: 3 },
+        lent: 90,
+        expected: Err(11),
+        found: Err(7),
+        word: Some(WordDifference {
+            place: 4,
+            before: 1,
+            expected: 1,
+            found: 3,
+        }),
+    };
+    let text = "call Clock { clock: 3 } on 90 words\n\
+                answers refused 7, expected refused 11\n\
+                word 4 is 3, expected 1, before 1";
+    assert_eq!(difference.to_string(), text);
+}

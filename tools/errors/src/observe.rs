@@ -1,0 +1,140 @@
+//! Runs an order through the static library and the exact ledger.
+
+use reference::calls::{Answer, Call};
+use reference::ledger::Ledger;
+use reference::shape::Shape;
+
+use crate::order::{Order, Step};
+
+/// The site shape: k, n, M, g.
+pub const SITE: [u32; 4] = [20, 441, 24, 1];
+/// Ticks of an interval.
+pub const TICKS: u32 = 1 << SITE[0];
+/// Decilitres that an interval keeps.
+pub const CAPACITY: u64 = 1 << SITE[2];
+/// The proved bound is this part of the true sum: 2(k+1) to n-k-1.
+pub const BOUND: (u64, u64) = (2 * (SITE[0] as u64 + 1), (SITE[1] - SITE[0] - 1) as u64);
+
+/// One answered question.
+#[derive(Clone, Copy, Debug, PartialEq, Eq)]
+pub struct Observation {
+    /// Its window.
+    pub window: u32,
+    /// The ledger's sum.
+    pub truth: u64,
+    /// The book's sum.
+    pub answer: u64,
+}
+
+impl Observation {
+    /// The error as a part of the true sum; a wrong answer about nothing is infinitely wrong.
+    pub fn relative_error(self) -> f64 {
+        match (self.truth, self.truth.abs_diff(self.answer)) {
+            (_, 0) => 0.0,
+            (0, _) => f64::INFINITY,
+            (truth, error) => error as f64 / truth as f64,
+        }
+    }
+
+    /// Whether the answer keeps the proved bound.
+    pub fn within_bound(self) -> bool {
+        let (part, whole) = BOUND;
+        self.truth.abs_diff(self.answer) * whole <= part * self.truth
+    }
+}
+
+/// What an order showed.
+pub struct Observed {
+    /// Accepted deliveries.
+    pub deliveries: u64,
+    /// Every answer.
+    pub observations: Vec<Observation>,
+}
+
+impl Observed {
+    /// The answer with the greatest relative error.
+    pub fn worst(&self) -> Option<Observation> {
+        let by_error = |a: &Observation, b: &Observation| {
+            f64::total_cmp(&a.relative_error(), &b.relative_error())
+        };
+        self.observations.iter().copied().max_by(by_error)
+    }
+
+    /// How many answers were exact.
+    pub fn exact(&self) -> usize {
+        let exact = |o: &&Observation| o.truth == o.answer;
+        self.observations.iter().filter(exact).count()
+    }
+}
+
+/// Each step of each book; the error names a call on which library and ledger disagree.
+pub fn observe(order: &Order) -> Result<Observed, String> {
+    let mut observed = Observed {
+        deliveries: 0,
+        observations: Vec::new(),
+    };
+    for steps in &order.books {
+        let mut site = Site::new()?;
+        for step in steps {
+            site.step(step, &mut observed)?;
+        }
+    }
+    Ok(observed)
+}
+
+/// A book of the library and the ledger of the same calls.
+struct Site {
+    book: Vec<u32>,
+    ledger: Ledger,
+}
+
+impl Site {
+    fn new() -> Result<Site, String> {
+        let [k, n, m, g] = SITE;
+        let shape = Shape::new(k, n, m, g).ok_or("the site shape is within its limits")?;
+        let mut book = vec![0; litres::words(k, n, m, g).ok_or("no length for the site shape")?];
+        litres::make(&mut book, k, n, m, g).map_err(|refused| refused.to_string())?;
+        let ledger = Ledger::new(shape);
+        Ok(Site { book, ledger })
+    }
+
+    fn step(&mut self, step: &Step, observed: &mut Observed) -> Result<(), String> {
+        match step {
+            Step::Clock(clock) => {
+                let answer = litres::clock(&mut self.book, *clock).map(|()| Answer::Done);
+                self.agree(Call::Clock { clock: *clock }, answer)?;
+            }
+            &Step::Delivery { stamp, volume } => {
+                let answer = litres::delivery(&mut self.book, 0, stamp, volume);
+                let call = Call::Delivery {
+                    grade: 0,
+                    stamp,
+                    volume,
+                };
+                self.agree(call, answer.map(|()| Answer::Done))?;
+                observed.deliveries += 1;
+            }
+            Step::Ask(windows) => {
+                for &window in windows {
+                    let answer = litres::query(&self.book, 0, window).map_err(|r| r.to_string())?;
+                    let truth = self.ledger.window_sum(0, window);
+                    observed.observations.push(Observation {
+                        window,
+                        truth,
+                        answer,
+                    });
+                }
+            }
+        }
+        Ok(())
+    }
+
+    /// Both must accept: the orders hold nothing that is refused.
+    fn agree(&mut self, call: Call, answer: Result<Answer, litres::Refused>) -> Result<(), String> {
+        let expected = self.ledger.perform(call, self.book.len());
+        match (answer, expected) {
+            (Ok(_), Ok(_)) => Ok(()),
+            (answer, expected) => Err(format!("{call:?}: {answer:?}, ledger {expected:?}")),
+        }
+    }
+}

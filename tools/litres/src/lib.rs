@@ -1,0 +1,69 @@
+//! The proved calls of document 01 over a borrowed slice of words, for Rust.
+//!
+//! The static library `capi` does all the work; here its C functions get Rust's types. A slice says
+//! that the words are there, aligned and used by nobody else, and a sum is returned by value, so it
+//! cannot lie within the book.
+//!
+//! ```
+//! let (k, n, m, g) = (2, 2, 4, 1);
+//! let mut book = vec![0; litres::words(k, n, m, g).unwrap()];
+//! litres::make(&mut book, k, n, m, g)?;
+//! litres::clock(&mut book, 3)?;
+//! litres::delivery(&mut book, 0, 1, 250).unwrap_err(); // 2^4 decilitres at most
+//! litres::delivery(&mut book, 0, 1, 5)?;
+//! assert_eq!(litres::query(&book, 0, 2)?, 5);
+//! # Ok::<(), litres::Refused>(())
+//! ```
+
+#![warn(missing_docs)]
+
+mod archive;
+mod refused;
+
+pub use refused::Refused;
+
+/// How many words a book of this shape needs; nothing where the shape is outside its limits.
+pub fn words(k: u32, n: u32, m: u32, g: u32) -> Option<usize> {
+    // SAFETY: the function takes four numbers of any value and reaches no memory of the caller's.
+    let words = unsafe { archive::litres_words(k, n, m, g) };
+    (words != 0).then_some(words)
+}
+
+/// Writes an empty book at clock 0, whatever the words were.
+pub fn make(book: &mut [u32], k: u32, n: u32, m: u32, g: u32) -> Result<(), Refused> {
+    let (words, len) = (book.as_mut_ptr(), book.len());
+    // SAFETY: `words` and `len` are of one exclusive slice, which lives through the call; an empty
+    // slice's pointer is aligned and not null, and no word behind it is used.
+    accepted(unsafe { archive::litres_make(words, len, k, n, m, g) })
+}
+
+/// Moves the clock on and empties what has passed out of reach.
+pub fn clock(book: &mut [u32], clock: u32) -> Result<(), Refused> {
+    let (words, len) = (book.as_mut_ptr(), book.len());
+    // SAFETY: as for `make`.
+    accepted(unsafe { archive::litres_clock(words, len, clock) })
+}
+
+/// Records a delivery of so many decilitres of a grade at a tick.
+pub fn delivery(book: &mut [u32], grade: u32, stamp: u32, volume: u32) -> Result<(), Refused> {
+    let (words, len) = (book.as_mut_ptr(), book.len());
+    // SAFETY: as for `make`.
+    accepted(unsafe { archive::litres_delivery(words, len, grade, stamp, volume) })
+}
+
+/// The decilitres of a grade from `window` ticks before the clock up to the clock.
+pub fn query(book: &[u32], grade: u32, window: u32) -> Result<u64, Refused> {
+    let mut sum = 0;
+    // SAFETY: the pointer and the length are of one slice, shared and so not written by anybody
+    // during the call; the function only reads it. `sum` is a variable of its own, apart from it.
+    let number =
+        unsafe { archive::litres_query(book.as_ptr(), book.len(), grade, window, &mut sum) };
+    accepted(number).map(|()| sum)
+}
+
+fn accepted(number: u32) -> Result<(), Refused> {
+    match number {
+        0 => Ok(()),
+        number => Err(Refused(number)),
+    }
+}

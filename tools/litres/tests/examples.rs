@@ -1,0 +1,132 @@
+//! The examples of document 01 through the archive.
+
+use litres::{clock, delivery, make, query, words, Refused};
+
+const SHAPE: [u32; 4] = [2, 2, 4, 1];
+/// Words of a level with two slots.
+const LEVEL: usize = 8;
+
+/// The book at clock 3 after deliveries of (stamp, volume).
+fn after(deliveries: &[(u32, u32)]) -> Vec<u32> {
+    let [k, n, m, g] = SHAPE;
+    let mut book = vec![u32::MAX; 90];
+    make(&mut book, k, n, m, g).unwrap();
+    clock(&mut book, 3).unwrap();
+    for &(stamp, volume) in deliveries {
+        delivery(&mut book, 0, stamp, volume).unwrap();
+    }
+    book
+}
+
+/// The state in which P1, P2, P3, P6 or P7 leaves the book.
+fn example(number: usize) -> Vec<u32> {
+    let deliveries = [(0, 3), (3, 1), (1, 1), (1, 1), (2, 2)];
+    after(&deliveries[..[1, 2, 3, 3, 3, 4, 5][number - 1]])
+}
+
+/// The words of a level of the even half.
+fn level(book: &[u32], index: usize) -> &[u32] {
+    &book[10 + LEVEL * index..][..LEVEL]
+}
+
+#[test]
+fn lengths() {
+    assert_eq!(words(2, 2, 4, 1), Some(90));
+    assert_eq!(words(20, 441, 24, 1), Some(66_260));
+    for [k, n, m, g] in [[1, 2, 4, 1], [2, 1025, 4, 1], [2, 2, 25, 1], [2, 2, 4, 9]] {
+        assert_eq!(words(k, n, m, g), None);
+    }
+    assert_eq!(words(u32::MAX, u32::MAX, u32::MAX, u32::MAX), None);
+}
+
+#[test]
+fn make_writes_an_empty_book() {
+    let [k, n, m, g] = SHAPE;
+    let mut book = vec![u32::MAX; 90];
+    make(&mut book, k, n, m, g).unwrap();
+    assert_eq!(book[..10], [2, 2, 4, 1, 0, 0, 0, 0, 0, 0]);
+    for (index, level) in book[10..].chunks(LEVEL).enumerate() {
+        let whole = [1, 0, 0, 4, 0, 0, 0, 0];
+        let expected = if index % 5 == 0 { [0; LEVEL] } else { whole };
+        assert_eq!(level, expected, "level {index}");
+    }
+}
+
+#[test]
+fn p1_to_p3_and_p6_to_p8_levels() {
+    assert_eq!(level(&example(1), 1), [1, 0, 0, 4, 3, 0, 0, 0]);
+    assert_eq!(level(&example(2), 1), [2, 0, 0, 2, 2, 2, 2, 2]);
+    assert_eq!(level(&example(3), 0), [2, 1, 1, 1, 1, 3, 1, 1]);
+    assert_eq!(level(&example(3), 1), [2, 0, 0, 2, 3, 2, 2, 2]);
+    assert_eq!(level(&example(6), 1), [2, 1, 1, 1, 2, 2, 2, 2]);
+    assert_eq!(level(&example(7), 2), [2, 0, 0, 2, 4, 2, 2, 4]);
+    let p8 = after(&[(0, 3), (3, 1), (0, 5)]);
+    assert_eq!(level(&p8, 1), [2, 1, 1, 1, 2, 2, 2, 2]);
+}
+
+#[test]
+fn p4_to_p7_windows() {
+    assert_eq!(query(&example(4), 0, 2), Ok(2));
+    assert_eq!(query(&example(5), 0, 3), Ok(5));
+    assert_eq!(query(&example(6), 0, 3), Ok(6));
+    assert_eq!(query(&example(7), 0, 2), Ok(4));
+    assert_eq!(query(&example(7), 0, 4), Ok(8));
+    assert_eq!(query(&example(7), 0, 5), Err(Refused(5)));
+}
+
+#[test]
+fn p9_fills_the_interval() {
+    for stamp in 0..4 {
+        let mut book = example(7);
+        let before = book.clone();
+        assert_eq!(delivery(&mut book, 0, stamp, 9), Err(Refused(12)));
+        assert_eq!(book, before);
+        assert_eq!(delivery(&mut book, 0, stamp, 8), Ok(()));
+        assert_eq!(book[8], 16);
+    }
+}
+
+#[test]
+fn p10_late_and_ahead() {
+    let mut book = example(7);
+    clock(&mut book, 8).unwrap();
+    for (stamp, answer) in [(4, Ok(())), (3, Err(Refused(9))), (9, Err(Refused(8)))] {
+        assert_eq!(delivery(&mut book.clone(), 0, stamp, 1), answer);
+    }
+}
+
+#[test]
+fn every_other_refusal() {
+    let mut book = example(7);
+    let before = book.clone();
+    assert_eq!(make(&mut book, 1, 2, 4, 1), Err(Refused(1)));
+    assert_eq!(make(&mut book, 2, 3, 4, 1), Err(Refused(2)));
+    assert_eq!(query(&book[..89], 0, 1), Err(Refused(2)));
+    assert_eq!(query(&book, 1, 1), Err(Refused(3)));
+    assert_eq!(delivery(&mut book, 0, 3, 65_536), Err(Refused(4)));
+    assert_eq!(clock(&mut book, 2_000_000_001), Err(Refused(6)));
+    assert_eq!(clock(&mut book, 2), Err(Refused(10)));
+    assert_eq!(book, before);
+    book[7] = 1;
+    assert_eq!(clock(&mut book, 4), Err(Refused(7)));
+    book[7] = 0;
+    book[8] += 1;
+    assert_eq!(clock(&mut book, 4), Err(Refused(11)));
+}
+
+#[test]
+fn empty_slices() {
+    assert_eq!(make(&mut [], 2, 2, 4, 1), Err(Refused(2)));
+    assert_eq!(make(&mut [], 0, 2, 4, 1), Err(Refused(1)));
+    assert_eq!(clock(&mut [], 0), Err(Refused(2)));
+    assert_eq!(delivery(&mut [], 0, 0, 1), Err(Refused(2)));
+    assert_eq!(query(&[], 0, 0), Err(Refused(2)));
+}
+
+#[test]
+fn refusals_in_words() {
+    assert_eq!(Refused(12).to_string(), "refused 12: interval full");
+    let meanings: std::collections::HashSet<_> =
+        (1..=13).map(|number| Refused(number).meaning()).collect();
+    assert_eq!(meanings.len(), 13);
+}

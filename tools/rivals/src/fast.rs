@@ -13,13 +13,14 @@ pub struct Fast;
 
 impl Calls for Fast {
     fn is_sound(shape: Shape, block: &[u32]) -> bool {
-        halves(shape, block).into_iter().all(|(total, mut levels)| {
+        halves(shape, block).into_iter().all(|(total, levels)| {
+            let mut heavy = false;
             u64::from(total) <= shape.capacity()
-                && levels.next().is_some_and(|level| {
-                    level_is_sound(total, level, |used| ticks(shape, level, used))
-                })
-                && (1..).zip(levels).all(|(index, level)| {
-                    level_is_sound(total, level, |used| spans(shape, index, level, used))
+                && levels.enumerate().rev().all(|(index, level)| {
+                    level_is_sound(total, level, |used| match index {
+                        0 => ticks(shape, level, used),
+                        _ => spans(shape, index as u32, level, used, &mut heavy),
+                    })
                 })
         })
     }
@@ -65,26 +66,94 @@ fn ticks(shape: Shape, level: Level, buckets: &[Slot]) -> Option<u64> {
     sound.then(|| exact(buckets, weights, sum))
 }
 
-/// Level i from 1 on: buckets that span all from the first offset on.
-fn spans(shape: Shape, index: u32, level: Level, buckets: &[Slot]) -> Option<u64> {
+/// Level i from 1 on: buckets that span all from the first offset on. `heavy` is whether a bucket of
+/// one tick may have a weight of 2^(i+1) or more; where none has, all of them need not be told apart.
+fn spans(
+    shape: Shape,
+    index: u32,
+    level: Level,
+    buckets: &[Slot],
+    heavy: &mut bool,
+) -> Option<u64> {
     let least = if buckets.len() > 1 { 1 << index } else { 0 };
-    let (mut faults, mut bits, mut heavy, mut sum) = (0, 0, 0, 0u32);
-    let mut next = level.first;
-    for &[offset, length, weight] in buckets {
-        faults |= next ^ offset;
-        next = offset.wrapping_add(length);
-        // A power of two that divides its offset; or both are 0, which only a first bucket can be.
-        let both = offset | length;
-        faults |= both & length.wrapping_sub(1);
-        // At least 2^31 where the weight is too small.
-        bits |= both | weight.wrapping_sub(least);
-        heavy |= if length == 1 { 0 } else { weight };
-        sum = sum.wrapping_add(weight);
+    let above = (2 << index) - least;
+    let mut seen = if *heavy {
+        Seen::run::<true>(level.first, least, above, buckets)
+    } else {
+        Seen::run::<false>(level.first, least, above, buckets)
+    };
+    if !*heavy && seen.weights >= above {
+        *heavy = true;
+        seen = Seen::run::<true>(level.first, least, above, buckets);
     }
-    let sound = faults == 0
-        && bits < 2 << Shape::M_MAX
-        && heavy < 2 << index
-        && next == 1 << shape.k()
+    let sound = seen.faults == 0
+        && seen.bits | seen.weights < 2 << Shape::M_MAX
+        && seen.next == 1 << shape.k()
         && buckets.first().is_some_and(|slot| slot[1] != 0);
-    sound.then(|| exact(buckets, bits | least, sum))
+    sound.then(|| exact(buckets, seen.weights | least, seen.sum))
+}
+
+/// What a run through the buckets of a level collects.
+struct Seen {
+    /// Not zero where a condition fails.
+    faults: u32,
+    /// Bits of offsets and lengths. It is enough to look at every other bucket: a sum of offset and
+    /// length wraps only from an offset that is itself so large that two buckets in a row show it.
+    bits: u32,
+    /// Bits of the weights less the least one; at least 2^31 where a weight is less than that.
+    weights: u32,
+    /// The sum of the weights, modulo 2^32.
+    sum: u32,
+    /// Where the next bucket begins.
+    next: u32,
+}
+
+impl Seen {
+    #[inline(never)]
+    fn run<const HEAVY: bool>(first: u32, least: u32, above: u32, buckets: &[Slot]) -> Seen {
+        let mut seen = Seen {
+            faults: 0,
+            bits: 0,
+            weights: 0,
+            sum: 0,
+            next: first,
+        };
+        let (groups, rest) = buckets.as_chunks::<4>();
+        for [one, two, three, four] in groups {
+            seen.bucket::<HEAVY, true>(least, above, one);
+            seen.bucket::<HEAVY, false>(least, above, two);
+            seen.bucket::<HEAVY, true>(least, above, three);
+            seen.bucket::<HEAVY, false>(least, above, four);
+        }
+        for bucket in rest {
+            seen.bucket::<HEAVY, true>(least, above, bucket);
+        }
+        seen
+    }
+
+    #[inline(always)]
+    fn bucket<const HEAVY: bool, const BITS: bool>(
+        &mut self,
+        least: u32,
+        above: u32,
+        &[offset, length, weight]: &Slot,
+    ) {
+        self.faults |= self.next ^ offset;
+        self.next = offset.wrapping_add(length);
+        let both = offset | length;
+        if BITS {
+            self.bits |= both;
+        }
+        let extra = weight.wrapping_sub(least);
+        self.weights |= extra;
+        self.sum = self.sum.wrapping_add(weight);
+        // A power of two that divides its offset; or both are 0, which only a first bucket can be.
+        // It is 1 where the weight is heavy.
+        let mask = if HEAVY && extra as i32 > above as i32 - 1 {
+            u32::MAX
+        } else {
+            0
+        };
+        self.faults |= (both | mask) & length.wrapping_sub(1);
+    }
 }

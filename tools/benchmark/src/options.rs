@@ -16,7 +16,7 @@ impl Options {
     /// Reads the words after the program's name.
     pub fn read(mut words: impl Iterator<Item = String>) -> Result<Options, String> {
         let mut options = Options {
-            rounds: 301,
+            rounds: 601,
             twice: false,
         };
         while let Some(word) = words.next() {
@@ -45,7 +45,7 @@ mod tests {
 
     #[test]
     fn words_of_the_command_line() {
-        assert_eq!(read(&[]), Some((301, false)));
+        assert_eq!(read(&[]), Some((601, false)));
         assert_eq!(read(&["--twice", "--rounds", "7"]), Some((7, true)));
         assert_eq!(read(&["--rounds", "0"]), None);
         assert_eq!(read(&["--rounds"]), None);

@@ -32,8 +32,20 @@ fn level_is_sound(total: u32, level: Level, buckets: impl FnOnce(&[Slot]) -> Opt
         return false;
     };
     (level.first == 0 || unused.is_empty())
-        && unused.as_flattened().iter().fold(0, |all, word| all | word) == 0
+        && are_zero(unused.as_flattened())
         && buckets(used).is_some_and(|sum| level.weighs(sum, total))
+}
+
+/// Whether every word is 0: all joined with `|`, four vectors at a time.
+fn are_zero(words: &[u32]) -> bool {
+    let (groups, rest) = words.as_chunks::<16>();
+    let mut bits = [0; 16];
+    for group in groups {
+        for (bits, word) in bits.iter_mut().zip(group) {
+            *bits |= word;
+        }
+    }
+    bits.iter().chain(rest).fold(0, |all, word| all | word) == 0
 }
 
 /// Weights of at most 2^21 + 2^20 add up to less than 2^32 on every level.

@@ -16,7 +16,7 @@ pub const TIMED: usize = CANDIDATES.len() + READS.len();
 /// time after which another process may get the processor.
 const WORDS_PER_BATCH: usize = 1 << 18;
 
-/// Microseconds of one call, round by round: for the static library, (a), (b), (c) and (c64).
+/// Microseconds of one call, round by round: for the static library, (a), (b), (c) and (c4).
 pub struct Times {
     rounds: Vec<[f64; TIMED]>,
 }

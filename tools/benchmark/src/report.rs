@@ -8,12 +8,12 @@ use crate::load::{full_levels, Load};
 use crate::measure::{measure, Times};
 use crate::task::Kind;
 
-/// The places of the static library, (a), (b), (c) and (c64) in the times.
+/// The places of the static library, (a), (b), (c) and (c4) in the times.
 const LIBRARY: usize = 0;
 const PLAIN: usize = 1;
 const FAST: usize = 2;
 const READ: usize = 3;
-const READ_64: usize = 4;
+const READ_4: usize = 4;
 
 /// The columns of times.
 const COLUMNS: [(&str, usize); 5] = [
@@ -21,14 +21,15 @@ const COLUMNS: [(&str, usize); 5] = [
     ("(a)", PLAIN),
     ("(b)", FAST),
     ("(c)", READ),
-    ("(c64)", READ_64),
+    ("(c4)", READ_4),
 ];
 
 /// The ratios of a row, and the names of their columns.
-const RATIOS: [(&str, usize, usize); 3] = [
+const RATIOS: [(&str, usize, usize); 4] = [
     ("library / (a)", LIBRARY, PLAIN),
     ("library / (b)", LIBRARY, FAST),
     ("(b) / (c)", FAST, READ),
+    ("(b) / (c4)", FAST, READ_4),
 ];
 
 const SITE: [u32; 4] = [20, 441, 24, 1];

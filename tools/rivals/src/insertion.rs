@@ -47,7 +47,7 @@ fn at_tick(slots: &mut [Slot], count: usize, first: u32, offset: u32, volume: u3
     }
 }
 
-/// Level i from 1 on: fill the covering bucket, split it, go on in the half that covers the offset.
+/// Level i from 1 on: the covering bucket takes the volume, or is split.
 fn in_span(
     slots: &mut [Slot],
     count: usize,
@@ -57,6 +57,25 @@ fn in_span(
     volume: u32,
 ) -> (usize, u32) {
     let at = slots[..count].partition_point(|slot| slot[0] <= offset) - 1;
+    let [_, length, weight] = slots[at];
+    if length > 1 && volume >= (2 << index) - weight {
+        return split(slots, count, first, index, offset, volume, at);
+    }
+    slots[at][2] += volume;
+    (count, first)
+}
+
+/// Fills the bucket at this place, splits it, and goes on in the half that covers the offset.
+#[inline(never)]
+fn split(
+    slots: &mut [Slot],
+    count: usize,
+    first: u32,
+    index: u32,
+    offset: u32,
+    volume: u32,
+    at: usize,
+) -> (usize, u32) {
     let (full, part) = (2 << index, 1 << index);
     let [mut start, mut length, mut weight] = slots[at];
     let mut rest = volume;
@@ -67,14 +86,13 @@ fn in_span(
     while length > 1 && rest >= full - weight {
         rest -= full - weight;
         (length, weight) = (length / 2, part);
-        if offset < start + length {
-            after[afters] = [start + length, length, part];
-            afters += 1;
-        } else {
-            before[befores] = [start, length, part];
-            befores += 1;
-            start += length;
-        }
+        // Which half covers the offset cannot be foreseen: both are written, and one is kept.
+        let right = offset >= start + length;
+        before[befores] = [start, length, part];
+        after[afters] = [start + length, length, part];
+        befores += usize::from(right);
+        afters += usize::from(!right);
+        start += if right { length } else { 0 };
         if count + befores + afters - evicted > slots.len() {
             if evicted == at + befores {
                 kept = false;
@@ -82,10 +100,6 @@ fn in_span(
             }
             evicted += 1;
         }
-    }
-    if befores + afters == 0 {
-        slots[at][2] += volume;
-        return (count, first);
     }
     // What is evicted is the lowest: slots before the bucket, then parts that it left behind it.
     let gone = evicted.min(at);

@@ -182,31 +182,25 @@ fn ratio(kind: Kind, times: &Times, timed: usize, other: usize) -> String {
 
 /// The targets on the site shape, as Markdown.
 pub fn bars(tables: &[Table]) -> String {
-    let site = &tables[0].rows;
-    let worst = |kinds: &[Kind], timed, other| {
-        let rows = site.iter().filter(|row| kinds.contains(&row.kind));
-        rows.map(|row| row.times.ratio(timed, other))
-            .fold(0.0, f64::max)
-    };
-    let deliveries = [Kind::Unit, Kind::Delivery];
-    let queries = [Kind::ShortQuery, Kind::HalfQuery, Kind::FullQuery];
     let mut text = String::from("| target on the site shape | at most | measured | |\n");
     text.push_str("| --- | --- | --- | --- |\n");
-    for (name, most, measured) in [
-        ("delivery: (b) / (c)", FAIR, worst(&deliveries, FAST, READ)),
-        (
-            "delivery: library / (b)",
-            CLOSE,
-            worst(&deliveries, LIBRARY, FAST),
-        ),
-        (
-            "question: library / (b)",
-            CLOSE,
-            worst(&queries, LIBRARY, FAST),
-        ),
-    ] {
-        let verdict = verdict(measured <= most);
-        writeln!(text, "| {name} | {most} | {measured:.2} | {verdict} |").unwrap();
+    for row in &tables[0].rows {
+        let delivery = [Kind::Unit, Kind::Delivery].contains(&row.kind);
+        for (ratio, timed, other) in RATIOS {
+            let most = match other {
+                READ | READ_4 if delivery => FAIR,
+                FAST if row.kind.reads_one_block() => CLOSE,
+                _ => continue,
+            };
+            let measured = row.times.ratio(timed, other);
+            let verdict = verdict(measured <= most);
+            let name = &row.name;
+            writeln!(
+                text,
+                "| {name}: {ratio} | {most} | {measured:.2} | {verdict} |"
+            )
+            .unwrap();
+        }
     }
     text
 }

@@ -17,23 +17,13 @@ impl Calls for Fast {
             let mut heaviest = 0;
             u64::from(total) <= shape.capacity()
                 && (0..).zip(levels).all(|(index, level)| {
-                    level_is_sound(total, level, |used| match index {
+                    level.is_sound(total, are_zero, |used| match index {
                         0 => ticks(shape, level, used, &mut heaviest),
                         _ => spans(shape, index, level, used, heaviest >= (2 << index) - 1),
                     })
                 })
         })
     }
-}
-
-/// What is asked of any level; `buckets` asks the rest and gives the sum of the weights.
-fn level_is_sound(total: u32, level: Level, buckets: impl FnOnce(&[Slot]) -> Option<u64>) -> bool {
-    let Some((used, unused)) = level.split() else {
-        return false;
-    };
-    (level.first == 0 || unused.is_empty())
-        && are_zero(unused.as_flattened())
-        && buckets(used).is_some_and(|sum| level.weighs(sum, total))
 }
 
 /// Whether every word is 0: all joined with `|`, four vectors at a time.

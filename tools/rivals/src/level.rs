@@ -27,14 +27,25 @@ impl<'a> Level<'a> {
         }
     }
 
-    /// The slots that the count calls buckets and those after them, or nothing where there are fewer
-    /// slots than that.
-    pub fn split(self) -> Option<(&'a [Slot], &'a [Slot])> {
-        self.slots.split_at_checked(self.count as usize)
+    /// Whether the level is sound under this total. `are_zero` is asked of the words of the unused
+    /// slots; `buckets` is asked what only the level's index tells, and gives the sum of the weights.
+    #[inline(always)]
+    pub fn is_sound(
+        self,
+        total: u32,
+        are_zero: impl FnOnce(&[u32]) -> bool,
+        buckets: impl FnOnce(&[Slot]) -> Option<u64>,
+    ) -> bool {
+        let Some((used, unused)) = self.slots.split_at_checked(self.count as usize) else {
+            return false;
+        };
+        (self.first == 0 || unused.is_empty())
+            && are_zero(unused.as_flattened())
+            && buckets(used).is_some_and(|sum| self.weighs(sum, total))
     }
 
-    /// Whether weights of this sum fit the total: at most it, and it where nothing was evicted.
-    pub fn weighs(self, sum: u64, total: u32) -> bool {
+    /// At most the total, and exactly it where nothing was evicted.
+    fn weighs(self, sum: u64, total: u32) -> bool {
         let total = u64::from(total);
         sum <= total && (self.first != 0 || sum == total)
     }

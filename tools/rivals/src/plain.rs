@@ -1,7 +1,7 @@
 //! The check that leaves at the first fault, condition by condition.
 
 use crate::calls::Calls;
-use crate::level::{halves, Level, Slot};
+use crate::level::{halves, Slot};
 use reference::shape::Shape;
 
 /// The calls with a check that leaves at the first fault.
@@ -9,28 +9,20 @@ pub struct Plain;
 
 impl Calls for Plain {
     fn is_sound(shape: Shape, block: &[u32]) -> bool {
-        halves(shape, block).into_iter().all(|(total, mut levels)| {
+        halves(shape, block).into_iter().all(|(total, levels)| {
             u64::from(total) <= shape.capacity()
-                && levels.next().is_some_and(|level| {
-                    level_is_sound(total, level, |buckets| ticks(shape, level.first, buckets))
-                })
-                && (1..).zip(levels).all(|(index, level)| {
-                    level_is_sound(total, level, |buckets| {
-                        spans(shape, index, level.first, buckets)
+                && (0..).zip(levels).all(|(index, level)| {
+                    level.is_sound(total, are_zero, |used| match index {
+                        0 => ticks(shape, level.first, used),
+                        _ => spans(shape, index, level.first, used),
                     })
                 })
         })
     }
 }
 
-/// What is asked of any level; `buckets` asks the rest and gives the sum of the weights.
-fn level_is_sound(total: u32, level: Level, buckets: impl FnOnce(&[Slot]) -> Option<u64>) -> bool {
-    let Some((used, unused)) = level.split() else {
-        return false;
-    };
-    (level.first == 0 || unused.is_empty())
-        && unused.iter().all(|slot| *slot == [0; 3])
-        && buckets(used).is_some_and(|sum| level.weighs(sum, total))
+fn are_zero(words: &[u32]) -> bool {
+    words.iter().all(|word| *word == 0)
 }
 
 /// Level 0: a bucket for every tick.

@@ -5,7 +5,7 @@ use std::fmt::Write;
 use reference::shape::Shape;
 
 use crate::load::{full_levels, Load};
-use crate::measure::{measure, Times};
+use crate::measure::{self, measure, Times};
 use crate::task::Kind;
 
 /// The places of the static library, (a), (b), (c) and (c4) in the times.
@@ -70,33 +70,28 @@ pub fn run(rounds: usize) -> Vec<Table> {
         ("Small shape", SMALL),
     ] {
         let (shape, book) = grown(numbers);
-        let rows = Kind::ALL.map(|kind| row(kind.name(), kind, shape, &book, rounds));
+        let rows = Kind::ALL.map(|kind| (kind.name().to_owned(), kind, shape, &book[..]));
         tables.push(Table {
             title: format!("{name} {}", described(shape, &book)),
             head: "call",
-            rows: rows.into(),
+            rows: measured(rows.into(), rounds),
         });
     }
     let [k, n, m, g] = SITE;
-    let by_slots = SLOTS.map(|n| (format!("n = {n}"), [k, n, m, g]));
-    let by_levels = LEVELS.map(|m| (format!("M = {m}"), [k, n, m, g]));
     for (title, head, shapes) in [
-        ("Delivery of 1 decilitre, growing with n", "slots", by_slots),
-        (
-            "Delivery of 1 decilitre, growing with M",
-            "levels",
-            by_levels,
-        ),
+        ("growing with n", "slots", SLOTS.map(|n| [k, n, m, g])),
+        ("growing with M", "levels", LEVELS.map(|m| [k, n, m, g])),
     ] {
-        let rows = shapes.map(|(name, numbers)| {
-            let (shape, book) = grown(numbers);
-            let name = format!("{name}, {}", filled(shape, &book));
-            row(&name, Kind::Unit, shape, &book, rounds)
+        let books = shapes.map(grown);
+        let rows = books.each_ref().map(|(shape, book)| {
+            let (n, m, filled) = (shape.n(), shape.m(), filled(*shape, book));
+            let name = format!("n = {n}, M = {m}, {filled}");
+            (name, Kind::Unit, *shape, &book[..])
         });
         tables.push(Table {
-            title: format!("{title}, shape ({k}, n, M, {g})"),
+            title: format!("Delivery of 1 decilitre, {title}, shape ({k}, n, M, {g})"),
             head,
-            rows: rows.into(),
+            rows: measured(rows.into(), rounds),
         });
     }
     tables
@@ -108,13 +103,17 @@ fn grown([k, n, m, g]: [u32; 4]) -> (Shape, Vec<u32>) {
     (shape, Load::new(shape, 1).grow())
 }
 
-fn row(name: &str, kind: Kind, shape: Shape, book: &[u32], rounds: usize) -> Row {
-    eprintln!("    {name}");
-    Row {
-        name: name.to_owned(),
-        kind,
-        times: measure(kind, shape, book, rounds),
-    }
+fn measured(rows: Vec<(String, Kind, Shape, &[u32])>, rounds: usize) -> Vec<Row> {
+    eprintln!("measuring {} rows", rows.len());
+    let asked = rows.iter().map(|(_, kind, shape, grown)| measure::Row {
+        kind: *kind,
+        shape: *shape,
+        grown,
+    });
+    let times = measure(&asked.collect::<Vec<_>>(), rounds);
+    let rows = rows.into_iter().zip(times);
+    rows.map(|((name, kind, _, _), times)| Row { name, kind, times })
+        .collect()
 }
 
 fn described(shape: Shape, book: &[u32]) -> String {

@@ -9,8 +9,8 @@
  *   n, 2 to 1024   buckets of a level; more of them make the sums closer
  *   m, 1 to 24     at most 2^m decilitres are kept for each grade and interval
  *   g, 1 to 8      grades, numbered from 0 to g - 1
- * On a book that only these calls have written, the sum of a window is off by at most
- * 2(k+1)/(n-k-1) of the true sum, where n is above k + 1. With k = 20 and n = 441 that is one tenth.
+ * On a book that only these calls have written, and with n above k + 1, the sum of a window is off
+ * by at most 2(k+1)/(n-k-1) of the true sum. With k = 20 and n = 441 that is one tenth.
  *
  * The book. In every call `book` points to `len` words and
  *   - is aligned for uint32_t and not null, also where len is 0;

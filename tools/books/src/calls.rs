@@ -17,7 +17,7 @@ pub struct Caller<'a> {
 }
 
 impl Caller<'_> {
-    /// A call for a book with these words, which may be damaged, and of any length from 8 on.
+    /// A call for a book with these words, as many as the shape needs, sound or not.
     pub fn any(&mut self, words: &[u32]) -> Call {
         match self.random.below(20) {
             0 => self.make(),
@@ -140,7 +140,7 @@ impl Caller<'_> {
     fn reachable(&mut self, words: &[u32]) -> u32 {
         let (now, ticks) = (words[4], self.ticks());
         let oldest = now.saturating_sub(ticks);
-        if self.random.one_in(2) || words.len() < self.shape.book_length() {
+        if self.random.one_in(2) {
             return self.random.between(oldest, now);
         }
         let place = Place::draw(self.random, self.shape);
@@ -170,7 +170,7 @@ impl Caller<'_> {
     fn volume(&mut self, words: &[u32], grade: u32, stamp: u32) -> u32 {
         let shape = self.shape;
         let random = &mut *self.random;
-        let total = (grade < shape.g() && words.len() >= shape.book_length()).then(|| {
+        let total = (grade < shape.g()).then(|| {
             let parity = shape.parity(stamp.into());
             u64::from(words[shape.block(grade).start + parity])
         });
@@ -186,7 +186,7 @@ impl Caller<'_> {
             _ => 1 + random.below(room.clamp(1, 8)),
         };
         let limit = Shape::VOLUME_MAX.into();
-        let quick = quick_volume(shape) * if random.one_in(100) { 20 } else { 1 };
+        let quick = quick_volume(shape) * if random.one_in(4) { 20 } else { 1 };
         // Refused volumes cost nothing, accepted ones by the decilitre.
         if drawn > room || drawn > limit {
             drawn.min(u32::MAX.into()) as u32

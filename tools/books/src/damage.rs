@@ -7,10 +7,11 @@ use reference::words::{encode_block, encode_head};
 use crate::places::Place;
 use crate::{sound, wrapped};
 
-type Damage = fn(&mut Random, Shape, &mut [u32]);
+/// Changes some words of a book of this shape.
+type Change = fn(&mut Random, Shape, &mut [u32]);
 
 /// Each kind of damage with its name.
-const KINDS: [(&str, Damage); 19] = [
+const KINDS: [(&str, Change); 19] = [
     ("a word changed", any_word),
     ("a head word changed", head_word),
     ("a count changed", count_word),
@@ -36,8 +37,8 @@ const KINDS: [(&str, Damage); 19] = [
 pub fn damage(random: &mut Random, shape: Shape, words: &mut [u32]) -> &'static str {
     let mut done = "";
     for _ in 0..=u64::from(random.one_in(6)) {
-        let (name, damage) = random.pick(&KINDS);
-        damage(random, shape, words);
+        let (name, change) = random.pick(&KINDS);
+        change(random, shape, words);
         done = name;
     }
     done

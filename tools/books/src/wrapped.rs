@@ -19,19 +19,18 @@ pub fn damage(random: &mut Random, shape: Shape, words: &mut [u32]) {
 fn head(random: &mut Random, shape: Shape, words: &mut [u32]) {
     let [k, n, m, g] = same_length(shape);
     let (place, word) = random.pick(&[
-        (0, shape.k() + 32),
-        (0, shape.k() + 64),
-        (2, shape.m() + 32),
         (0, k),
+        (0, k + 32),
         (1, n),
         (2, m),
+        (2, shape.m() + 32),
         (3, g),
     ]);
     words[place] = word;
 }
 
-/// For k, n, M and g another number, the others kept, with which the length of a book comes out the
-/// same modulo 2^32. k is not in the length.
+/// For k, n, M and g another number, the others kept, with which the length of a book comes out
+/// the same modulo 2^32. k is not in the length; its number gives the same shift.
 pub fn same_length(shape: Shape) -> [u32; 4] {
     let step = |factor: usize| 1u32 << (32 - factor.trailing_zeros());
     let (g, levels) = (shape.g() as usize, shape.levels());
@@ -63,9 +62,9 @@ fn weights(random: &mut Random, shape: Shape, words: &mut [u32]) {
     }
 }
 
-/// A level whose buckets go once round all 32-bit offsets before they part the interval: each starts
-/// where the last one ended, modulo 2^32, each length is a power of two that divides its offset, and
-/// the weights are the total.
+/// A level whose buckets go once round all 32-bit offsets before they part the interval: each
+/// starts where the last one ended, modulo 2^32, each length is a power of two that divides its
+/// offset, and the weights are the total.
 fn ends(random: &mut Random, shape: Shape, words: &mut [u32]) {
     let round = random.pick(&[2, 2, 4, 8]);
     let count = round + 1;

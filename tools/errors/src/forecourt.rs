@@ -37,7 +37,7 @@ pub fn prompt(seed: u64) -> Order {
         report.arrival = report.stamp + delay;
     }
     reports.sort_by_key(|report| report.arrival);
-    order("forecourt, some hours late", &mut random, &reports)
+    arriving("forecourt, some hours late", &mut random, &reports)
 }
 
 /// Each hour's reports arrive together, the newest first.
@@ -48,7 +48,7 @@ pub fn hourly(seed: u64) -> Order {
         report.arrival = (report.stamp / HOUR + 1) * HOUR;
     }
     reports.sort_by_key(|report| (report.arrival, u32::MAX - report.stamp));
-    order("forecourt, sent each hour", &mut random, &reports)
+    arriving("forecourt, sent each hour", &mut random, &reports)
 }
 
 fn cars(random: &mut Random) -> Vec<Report> {
@@ -67,7 +67,7 @@ fn cars(random: &mut Random) -> Vec<Report> {
 }
 
 /// The clock moves with the arrivals; questions come every six hours.
-fn order(name: &'static str, random: &mut Random, reports: &[Report]) -> Order {
+fn arriving(name: &'static str, random: &mut Random, reports: &[Report]) -> Order {
     let mut steps = Vec::new();
     let (mut clock, mut stamps) = (0, Vec::new());
     let mut next = DAY / 4;

@@ -39,8 +39,8 @@ pub struct Order {
     pub books: Vec<Vec<Step>>,
 }
 
-/// Windows from a second to an interval, evenly on a log scale, and such as open at one of the given
-/// ticks or next to it.
+/// Windows from a second to an interval, evenly on a log scale, and such as open at one of the
+/// given ticks or next to it.
 pub fn windows(random: &mut Random, clock: u32, ticks: &[u32]) -> Vec<u32> {
     const SPREAD: u32 = 64;
     const AIMED: u32 = 96;

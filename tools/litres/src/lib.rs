@@ -67,3 +67,20 @@ fn accepted(number: u32) -> Result<(), Refused> {
         number => Err(Refused(number)),
     }
 }
+
+#[cfg(test)]
+mod tests {
+    use super::archive;
+
+    /// The safe call cannot see this, a C program can.
+    #[test]
+    fn a_refused_query_writes_no_sum() {
+        let book = [0; 8];
+        for len in [0, 7, 8] {
+            let mut sum = 123;
+            // SAFETY: `len` is at most the array's length, and `sum` is apart from it.
+            let number = unsafe { archive::litres_query(book.as_ptr(), len, 0, 0, &mut sum) };
+            assert_eq!((number, sum), (if len < 8 { 2 } else { 7 }, 123));
+        }
+    }
+}

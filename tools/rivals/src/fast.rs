@@ -27,8 +27,8 @@ impl Calls for Fast {
 }
 
 /// Whether every word is 0: all joined with `|`, four vectors at a time.
-fn are_zero(words: &[u32]) -> bool {
-    let (groups, rest) = words.as_chunks::<16>();
+fn are_zero(slots: &[Slot]) -> bool {
+    let (groups, rest) = slots.as_flattened().as_chunks::<16>();
     let mut bits = [0; 16];
     for group in groups {
         for (bits, word) in bits.iter_mut().zip(group) {

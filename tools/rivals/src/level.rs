@@ -27,20 +27,20 @@ impl<'a> Level<'a> {
         }
     }
 
-    /// Whether the level is sound under this total. `are_zero` is asked of the words of the unused
+    /// Whether the level is sound under this total. `are_zero` is asked of the unused
     /// slots; `buckets` is asked what only the level's index tells, and gives the sum of the weights.
     #[inline(always)]
     pub fn is_sound(
         self,
         total: u32,
-        are_zero: impl FnOnce(&[u32]) -> bool,
+        are_zero: impl FnOnce(&[Slot]) -> bool,
         buckets: impl FnOnce(&[Slot]) -> Option<u64>,
     ) -> bool {
         let Some((used, unused)) = self.slots.split_at_checked(self.count as usize) else {
             return false;
         };
         (self.first == 0 || unused.is_empty())
-            && are_zero(unused.as_flattened())
+            && are_zero(unused)
             && buckets(used).is_some_and(|sum| self.weighs(sum, total))
     }
 

@@ -21,8 +21,8 @@ impl Calls for Plain {
     }
 }
 
-fn are_zero(words: &[u32]) -> bool {
-    words.iter().all(|word| *word == 0)
+fn are_zero(slots: &[Slot]) -> bool {
+    slots.iter().all(|slot| *slot == [0; 3])
 }
 
 /// Level 0: a bucket for every tick.

@@ -1,0 +1,140 @@
+//! Timing: rounds in which every candidate performs the same batch on the same words.
+
+use std::hint::black_box;
+use std::time::Instant;
+
+use reference::shape::Shape;
+
+use crate::candidate::{CANDIDATES, READS};
+use crate::load::Load;
+use crate::task::{Batch, Kind};
+
+/// The candidates and the bare reads.
+pub const TIMED: usize = CANDIDATES.len() + READS.len();
+
+/// A timed batch has about so many words to inspect: long beside the clock's step, short beside the
+/// time after which another process may get the processor.
+const WORDS_PER_BATCH: usize = 1 << 18;
+
+/// Microseconds of one call, round by round: for the static library, (a), (b), (c) and (c4).
+pub struct Times {
+    rounds: Vec<[f64; TIMED]>,
+}
+
+impl Times {
+    /// Of these rounds only the faster half counts: in the others something else had the processor or
+    /// its other half.
+    fn new(mut rounds: Vec<[f64; TIMED]>) -> Times {
+        let whole = |round: &[f64; TIMED]| round.iter().sum::<f64>();
+        rounds.sort_by(|one, other| whole(one).total_cmp(&whole(other)));
+        rounds.truncate(rounds.len().div_ceil(2));
+        Times { rounds }
+    }
+
+    /// The median time of one candidate.
+    pub fn median(&self, timed: usize) -> f64 {
+        median(self.rounds.iter().map(|round| round[timed]).collect())
+    }
+
+    /// The median over the rounds of how much longer one takes than another.
+    pub fn ratio(&self, timed: usize, other: usize) -> f64 {
+        let ratios = self.rounds.iter().map(|round| round[timed] / round[other]);
+        median(ratios.collect())
+    }
+}
+
+fn median(mut values: Vec<f64>) -> f64 {
+    values.sort_by(f64::total_cmp);
+    values[values.len() / 2]
+}
+
+/// One kind of call on copies of a grown book.
+pub struct Row<'a> {
+    /// The call.
+    pub kind: Kind,
+    /// The book's shape.
+    pub shape: Shape,
+    /// The grown book.
+    pub grown: &'a [u32],
+}
+
+/// Times rows side by side, each once a round, so that what else the machine does hits all alike.
+pub fn measure(rows: &[Row], rounds: usize) -> Vec<Times> {
+    let mut loads: Vec<_> = rows.iter().map(|row| Load::new(row.shape, 2)).collect();
+    let mut times = vec![Vec::new(); rows.len()];
+    let mut words = Words::default();
+    for round in 0..=rounds {
+        for ((row, load), times) in rows.iter().zip(&mut loads).zip(&mut times) {
+            let time = words.round(row, load, round);
+            // The first round only warms up.
+            if round > 0 {
+                times.push(time);
+            }
+        }
+    }
+    times.into_iter().map(Times::new).collect()
+}
+
+/// The words on which the candidates work, and what the first of them left.
+#[derive(Default)]
+struct Words {
+    book: Vec<u32>,
+    expected: Vec<u32>,
+}
+
+impl Words {
+    /// Each candidate performs the same batch on the same words. They are restored before each batch,
+    /// outside the timing, which also leaves them in the caches; all candidates work in the same
+    /// buffer, one after another, and must leave the same words and give the same sums.
+    fn round(&mut self, row: &Row, load: &mut Load, round: usize) -> [f64; TIMED] {
+        let Row { kind, shape, grown } = *row;
+        let inspected = Batch::inspected(kind, shape, 0).len();
+        let calls = (WORDS_PER_BATCH / inspected).clamp(2, 256) as u32;
+        let batch = Batch::new(kind, shape, grown[4], load, calls);
+        let mut sums = [0; CANDIDATES.len()];
+        let mut time = [0.0; TIMED];
+        self.expected.clear();
+        for turn in 0..TIMED {
+            // Each comes first as often as any other.
+            let timed = (turn + round) % TIMED;
+            self.book.clear();
+            self.book.extend_from_slice(grown);
+            let start = Instant::now();
+            if let Some(candidate) = CANDIDATES.get(timed) {
+                sums[timed] = batch.perform(candidate, &mut self.book);
+            } else {
+                let read = READS[timed - CANDIDATES.len()];
+                for number in 0..batch.len() as u32 {
+                    let words = &self.book[Batch::inspected(kind, shape, number)];
+                    black_box(read(black_box(words)));
+                }
+            }
+            let elapsed = start.elapsed();
+            time[timed] = elapsed.as_secs_f64() * 1e6 / batch.len() as f64;
+            if timed < CANDIDATES.len() {
+                if self.expected.is_empty() {
+                    self.expected.extend_from_slice(&self.book);
+                }
+                let equal = self.book == self.expected;
+                assert!(equal, "the candidates leave different words");
+            }
+        }
+        assert!(sums.iter().all(|sum| *sum == sums[0]), "different sums");
+        time
+    }
+}
+
+#[cfg(test)]
+mod tests {
+    use super::{Times, TIMED};
+
+    #[test]
+    fn the_faster_half_counts() {
+        let round =
+            |time: f64| std::array::from_fn::<_, TIMED, _>(|timed| time * (1 + timed) as f64);
+        let times = Times::new([9.0, 1.0, 3.0, 8.0, 2.0].map(round).to_vec());
+        assert_eq!(times.median(0), 2.0);
+        assert_eq!(times.median(2), 6.0);
+        assert_eq!(times.ratio(3, 1), 2.0);
+    }
+}

@@ -1,0 +1,249 @@
+//! The shapes that are measured, and the Markdown tables.
+
+use std::fmt::Write;
+
+use reference::shape::Shape;
+
+use crate::load::{full_levels, Load};
+use crate::measure::{self, measure, Times};
+use crate::task::Kind;
+
+/// The places of the static library, (a), (b), (c) and (c4) in the times.
+const LIBRARY: usize = 0;
+const PLAIN: usize = 1;
+const FAST: usize = 2;
+const READ: usize = 3;
+const READ_4: usize = 4;
+
+/// The columns of times.
+const COLUMNS: [(&str, usize); 5] = [
+    ("library", LIBRARY),
+    ("(a)", PLAIN),
+    ("(b)", FAST),
+    ("(c)", READ),
+    ("(c4)", READ_4),
+];
+
+/// The ratios of a row, and the names of their columns.
+const RATIOS: [(&str, usize, usize); 4] = [
+    ("library / (a)", LIBRARY, PLAIN),
+    ("library / (b)", LIBRARY, FAST),
+    ("(b) / (c)", FAST, READ),
+    ("(b) / (c4)", FAST, READ_4),
+];
+
+const SITE: [u32; 4] = [20, 441, 24, 1];
+const SITE_EIGHT: [u32; 4] = [20, 441, 24, 8];
+const SMALL: [u32; 4] = [10, 64, 16, 1];
+
+/// Slots and levels for which the growth of a delivery is measured.
+const SLOTS: [u32; 5] = [64, 128, 256, 441, 1024];
+const LEVELS: [u32; 5] = [8, 12, 16, 20, 24];
+
+/// (b) may cost so many bare reads, to be a fair rival.
+const FAIR: f64 = 3.0;
+/// The static library may cost so much more than (b).
+const CLOSE: f64 = 1.1;
+/// The ratios of a second run may differ by so much.
+const STEADY: f64 = 0.15;
+
+/// One table.
+pub struct Table {
+    title: String,
+    /// What the first column says.
+    head: &'static str,
+    rows: Vec<Row>,
+}
+
+struct Row {
+    name: String,
+    kind: Kind,
+    times: Times,
+}
+
+/// Measures everything.
+pub fn run(rounds: usize) -> Vec<Table> {
+    let mut tables = Vec::new();
+    for (name, numbers) in [
+        ("Site shape", SITE),
+        ("Site shape with eight grades", SITE_EIGHT),
+        ("Small shape", SMALL),
+    ] {
+        let (shape, book) = grown(numbers);
+        let rows = Kind::ALL.map(|kind| (kind.name().to_owned(), kind, shape, &book[..]));
+        tables.push(Table {
+            title: format!("{name} {}", described(shape, &book)),
+            head: "call",
+            rows: measured(rows.into(), rounds),
+        });
+    }
+    let [k, n, m, g] = SITE;
+    for (title, head, shapes) in [
+        ("growing with n", "slots", SLOTS.map(|n| [k, n, m, g])),
+        ("growing with M", "levels", LEVELS.map(|m| [k, n, m, g])),
+    ] {
+        let books = shapes.map(grown);
+        let rows = books.each_ref().map(|(shape, book)| {
+            let (n, m, filled) = (shape.n(), shape.m(), filled(*shape, book));
+            let name = format!("n = {n}, M = {m}, {filled}");
+            (name, Kind::Unit, *shape, &book[..])
+        });
+        tables.push(Table {
+            title: format!("Delivery of 1 decilitre, {title}, shape ({k}, n, M, {g})"),
+            head,
+            rows: measured(rows.into(), rounds),
+        });
+    }
+    tables
+}
+
+fn grown([k, n, m, g]: [u32; 4]) -> (Shape, Vec<u32>) {
+    let shape = Shape::new(k, n, m, g).expect("a shape within its limits");
+    eprintln!("growing ({k}, {n}, {m}, {g})");
+    (shape, Load::new(shape, 1).grow())
+}
+
+fn measured(rows: Vec<(String, Kind, Shape, &[u32])>, rounds: usize) -> Vec<Row> {
+    eprintln!("measuring {} rows", rows.len());
+    let asked = rows.iter().map(|(_, kind, shape, grown)| measure::Row {
+        kind: *kind,
+        shape: *shape,
+        grown,
+    });
+    let times = measure(&asked.collect::<Vec<_>>(), rounds);
+    let rows = rows.into_iter().zip(times);
+    rows.map(|((name, kind, _, _), times)| Row { name, kind, times })
+        .collect()
+}
+
+fn described(shape: Shape, book: &[u32]) -> String {
+    let [k, n, m, g] = [shape.k(), shape.n(), shape.m(), shape.g()];
+    let words = thousands(shape.block_length());
+    let filled = filled(shape, book);
+    format!("({k}, {n}, {m}, {g}): {words} words in a block, {filled}")
+}
+
+fn filled(shape: Shape, book: &[u32]) -> String {
+    let [even, odd] = full_levels(shape, &book[shape.block(0)]);
+    format!("{even} + {odd} of 2 x {} levels full", shape.levels())
+}
+
+fn thousands(number: usize) -> String {
+    match number / 1000 {
+        0 => number.to_string(),
+        thousand => format!("{},{:03}", thousands(thousand), number % 1000),
+    }
+}
+
+/// All tables as Markdown.
+pub fn tables(tables: &[Table]) -> String {
+    let mut text = String::new();
+    for table in tables {
+        let columns = COLUMNS.map(|(name, _)| name).join(" | ");
+        let ratios = RATIOS.map(|(name, _, _)| name).join(" | ");
+        writeln!(text, "{}. Microseconds, medians:\n", table.title).unwrap();
+        writeln!(text, "| {} | {columns} | {ratios} |", table.head).unwrap();
+        let rules = 1 + COLUMNS.len() + RATIOS.len();
+        writeln!(text, "|{}", " --- |".repeat(rules)).unwrap();
+        for Row { name, kind, times } in &table.rows {
+            write!(text, "| {name} |").unwrap();
+            for (_, timed) in COLUMNS {
+                write!(text, " {} |", time(*kind, times, timed)).unwrap();
+            }
+            for (_, timed, other) in RATIOS {
+                write!(text, " {} |", ratio(*kind, times, timed, other)).unwrap();
+            }
+            writeln!(text).unwrap();
+        }
+        writeln!(text).unwrap();
+    }
+    text
+}
+
+/// A make reads nothing, so the bare reads say nothing of it.
+fn says_nothing(kind: Kind, timed: usize) -> bool {
+    kind == Kind::Make && timed >= READ
+}
+
+fn time(kind: Kind, times: &Times, timed: usize) -> String {
+    if says_nothing(kind, timed) {
+        return "-".to_owned();
+    }
+    format!("{:.2}", times.median(timed))
+}
+
+fn ratio(kind: Kind, times: &Times, timed: usize, other: usize) -> String {
+    if says_nothing(kind, other) {
+        return "-".to_owned();
+    }
+    format!("{:.2}", times.ratio(timed, other))
+}
+
+/// The targets on the site shape, as Markdown.
+pub fn bars(tables: &[Table]) -> String {
+    let mut text = String::from("| target on the site shape | at most | measured | |\n");
+    text.push_str("| --- | --- | --- | --- |\n");
+    for row in &tables[0].rows {
+        let delivery = [Kind::Unit, Kind::Delivery].contains(&row.kind);
+        for (ratio, timed, other) in RATIOS {
+            let most = match other {
+                READ | READ_4 if delivery => FAIR,
+                FAST if row.kind.reads_one_block() => CLOSE,
+                _ => continue,
+            };
+            let measured = row.times.ratio(timed, other);
+            let verdict = verdict(measured <= most);
+            let name = &row.name;
+            writeln!(
+                text,
+                "| {name}: {ratio} | {most} | {measured:.2} | {verdict} |"
+            )
+            .unwrap();
+        }
+    }
+    text
+}
+
+fn verdict(met: bool) -> &'static str {
+    if met {
+        "met"
+    } else {
+        "missed"
+    }
+}
+
+/// How far the ratios of a second run are from those of the first, as Markdown.
+pub fn moved(first: &[Table], second: &[Table]) -> String {
+    let mut text = String::from("Ratios of a second run against the first:\n\n");
+    text.push_str("| table | row | ratio | first | second | moved |\n");
+    text.push_str("| --- | --- | --- | --- | --- | --- |\n");
+    let mut most: f64 = 0.0;
+    for (number, (one, two)) in (1..).zip(first.iter().zip(second)) {
+        for (row, again) in one.rows.iter().zip(&two.rows) {
+            for (name, timed, other) in RATIOS {
+                if says_nothing(row.kind, other) {
+                    continue;
+                }
+                let was = row.times.ratio(timed, other);
+                let is = again.times.ratio(timed, other);
+                let by = is / was - 1.0;
+                most = most.max(by.abs());
+                let percent = 100.0 * by;
+                writeln!(
+                    text,
+                    "| {number} | {} | {name} | {was:.2} | {is:.2} | {percent:+.1} % |",
+                    row.name
+                )
+                .unwrap();
+            }
+        }
+    }
+    let verdict = verdict(most <= STEADY);
+    let (percent, limit) = (100.0 * most, 100.0 * STEADY);
+    writeln!(
+        text,
+        "\nThe largest move is {percent:.1} %; at most {limit} %: {verdict}."
+    )
+    .unwrap();
+    text
+}

@@ -1,0 +1,126 @@
+//! The calls and the order of their refusals (document 01, "Calls" and the two lists of refusals).
+
+use crate::insertion;
+use crate::level::{half, Level};
+use reference::refusal::{self, when};
+use reference::shape::Shape;
+
+/// The four calls on words of any length and content; an error is the refusal's number, and a call
+/// that is refused writes no word.
+pub trait Calls {
+    /// Whether these words, as many as a block has, are a sound block.
+    fn is_sound(shape: Shape, block: &[u32]) -> bool;
+
+    /// Writes an empty book, whatever the words were.
+    fn make(book: &mut [u32], k: u32, n: u32, m: u32, g: u32) -> Result<(), u32> {
+        let shape = Shape::new(k, n, m, g).ok_or(refusal::SHAPE)?;
+        when(book.len() != shape.book_length(), refusal::LENGTH)?;
+        book[..Shape::HEAD_WORDS].copy_from_slice(&[k, n, m, g, 0, 0, 0, 0]);
+        for grade in 0..g {
+            let block = &mut book[shape.block(grade)];
+            empty(shape, block, 0);
+            empty(shape, block, 1);
+        }
+        Ok(())
+    }
+
+    /// Moves the clock on and empties the halves whose interval has passed out of reach.
+    fn clock(book: &mut [u32], clock: u32) -> Result<(), u32> {
+        let (shape, old) = open(book)?;
+        when(clock > Shape::CLOCK_MAX, refusal::CLOCK_LIMIT)?;
+        when(clock < old, refusal::CLOCK_BACK)?;
+        for grade in 0..shape.g() {
+            let sound = Self::is_sound(shape, &book[shape.block(grade)]);
+            when(!sound, refusal::BLOCK)?;
+        }
+        book[4] = clock;
+        let entered = shape.interval(clock.into()) - shape.interval(old.into());
+        let parity = shape.parity(clock.into());
+        for grade in 0..shape.g() {
+            let block = &mut book[shape.block(grade)];
+            if entered >= 1 {
+                empty(shape, block, parity);
+            }
+            if entered >= 2 {
+                empty(shape, block, 1 - parity);
+            }
+        }
+        Ok(())
+    }
+
+    /// Records a delivery in the half of its stamp's interval.
+    fn delivery(book: &mut [u32], grade: u32, stamp: u32, volume: u32) -> Result<(), u32> {
+        let (shape, clock) = open(book)?;
+        when(grade >= shape.g(), refusal::GRADE)?;
+        when(volume == 0 || volume > Shape::VOLUME_MAX, refusal::VOLUME)?;
+        when(stamp > clock, refusal::AHEAD)?;
+        let tick = u64::from(stamp);
+        let late = tick + shape.interval_ticks() < u64::from(clock);
+        when(late, refusal::LATE)?;
+        let block = &mut book[shape.block(grade)];
+        when(!Self::is_sound(shape, block), refusal::BLOCK)?;
+        let parity = shape.parity(tick);
+        let total = u64::from(block[parity]) + u64::from(volume);
+        when(total > shape.capacity(), refusal::FULL)?;
+        block[parity] += volume;
+        let offset = shape.offset(tick) as u32;
+        let levels = block[half(shape, parity)].chunks_exact_mut(shape.level_length());
+        for (index, level) in (0..).zip(levels) {
+            insertion::pour(level, index, offset, volume);
+        }
+        Ok(())
+    }
+
+    /// The sum of a window that ends at the clock.
+    fn query(book: &[u32], grade: u32, window: u32) -> Result<u64, u32> {
+        let (shape, clock) = open(book)?;
+        when(grade >= shape.g(), refusal::GRADE)?;
+        let too_long = u64::from(window) > shape.interval_ticks();
+        when(too_long, refusal::WINDOW)?;
+        let block = &book[shape.block(grade)];
+        when(!Self::is_sound(shape, block), refusal::BLOCK)?;
+        let opening = u64::from(clock.saturating_sub(window));
+        let clock = u64::from(clock);
+        let sum = sum_from(shape, block, opening);
+        if shape.interval(opening) == shape.interval(clock) {
+            Ok(sum)
+        } else {
+            Ok(sum + u64::from(block[shape.parity(clock)]))
+        }
+    }
+}
+
+/// The refusals that clock, delivery and query share: too short for a head, head, length.
+fn open(book: &[u32]) -> Result<(Shape, u32), u32> {
+    let head = book.first_chunk::<{ Shape::HEAD_WORDS }>();
+    let &[k, n, m, g, clock, a, b, c] = head.ok_or(refusal::LENGTH)?;
+    let shape = Shape::new(k, n, m, g).ok_or(refusal::HEAD)?;
+    let unsound = clock > Shape::CLOCK_MAX || a | b | c != 0;
+    when(unsound, refusal::HEAD)?;
+    when(book.len() != shape.book_length(), refusal::LENGTH)?;
+    Ok((shape, clock))
+}
+
+/// Empties one half of a block: only count and length of each first bucket are not zero.
+fn empty(shape: Shape, block: &mut [u32], parity: usize) {
+    block[parity] = 0;
+    let levels = &mut block[half(shape, parity)];
+    levels.fill(0);
+    for level in levels.chunks_exact_mut(shape.level_length()).skip(1) {
+        level[0] = 1;
+        level[Shape::LEVEL_HEAD_WORDS + 1] = shape.interval_ticks() as u32;
+    }
+}
+
+/// The weight from a tick on, from the finest level of its half that still keeps all of it. The
+/// block is sound, so that the last level serves where no other does.
+fn sum_from(shape: Shape, block: &[u32], opening: u64) -> u64 {
+    let offset = shape.offset(opening) as u32;
+    let levels = block[half(shape, shape.parity(opening))].chunks_exact(shape.level_length());
+    let serving = levels.map(Level::new).find(|level| level.first <= offset);
+    let level = serving.expect("the last level of a sound half keeps every offset");
+    let buckets = &level.slots[..level.count as usize];
+    let counted = &buckets[buckets.partition_point(|slot| slot[0] < offset)..];
+    // The weights of a sound level add up to at most 2^24.
+    u64::from(counted.iter().map(|slot| slot[2]).sum::<u32>())
+}

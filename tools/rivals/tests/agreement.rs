@@ -1,0 +1,346 @@
+//! Both versions against the reference, answers and words: on grown books, on damaged ones, on words
+//! that are right only modulo 2^32, and on slices of any length.
+
+#[path = "../../reference/tests/generate/mod.rs"]
+mod generate;
+
+use generate::Source;
+use reference::calls::{perform, Answer, Call};
+use reference::random::Random;
+use reference::refusal;
+use reference::shape::Shape;
+use rivals::{Calls, Fast, Plain};
+
+fn call<C: Calls>(words: &mut [u32], call: Call) -> Result<Answer, u32> {
+    match call {
+        Call::Make { k, n, m, g } => C::make(words, k, n, m, g).map(|()| Answer::Done),
+        Call::Clock { clock } => C::clock(words, clock).map(|()| Answer::Done),
+        Call::Delivery {
+            grade,
+            stamp,
+            volume,
+        } => C::delivery(words, grade, stamp, volume).map(|()| Answer::Done),
+        Call::Query { grade, window } => C::query(words, grade, window).map(Answer::Sum),
+    }
+}
+
+/// One call by all three on copies of the words, which then become what it left.
+fn agree(words: &mut Vec<u32>, asked: Call) -> Result<Answer, u32> {
+    let mut plain = words.clone();
+    let mut fast = words.clone();
+    let answer = perform(words, asked);
+    assert_eq!(call::<Plain>(&mut plain, asked), answer, "{asked:?}");
+    assert_eq!(call::<Fast>(&mut fast, asked), answer, "{asked:?}");
+    assert!(plain == *words, "{asked:?}");
+    assert!(fast == *words, "{asked:?}");
+    answer
+}
+
+fn source(seed: u64, shape: Shape, usual_volume: u64) -> Source {
+    Source {
+        random: Random::new(seed),
+        shapes: vec![shape],
+        calls_per_make: 1 << 40,
+        usual_volume,
+        clock_divisor: 8,
+    }
+}
+
+fn made(shape: Shape) -> Vec<u32> {
+    let [k, n, m, g] = [shape.k(), shape.n(), shape.m(), shape.g()];
+    let mut words = vec![!0; shape.book_length()];
+    agree(&mut words, Call::Make { k, n, m, g }).unwrap();
+    words
+}
+
+fn shapes() -> Vec<Shape> {
+    let numbers = [
+        [2, 2, 1, 1],
+        [2, 2, 4, 1],
+        [3, 3, 5, 2],
+        [5, 4, 9, 3],
+        [6, 7, 12, 1],
+        [8, 9, 16, 2],
+        [10, 33, 12, 1],
+        [12, 50, 14, 1],
+        [20, 17, 24, 1],
+        [20, 70, 18, 1],
+    ];
+    numbers
+        .map(|[k, n, m, g]| Shape::new(k, n, m, g).unwrap())
+        .to_vec()
+}
+
+#[test]
+fn random_calls() {
+    for (seed, shape) in (0..).zip(shapes()) {
+        for usual_volume in [2, 40, 900] {
+            let mut source = source(seed, shape, usual_volume);
+            let mut words = made(shape);
+            for _ in 0..1500 {
+                let asked = source.call(shape, words[4]);
+                let _ = agree(&mut words, asked);
+            }
+        }
+    }
+}
+
+#[test]
+fn a_book_of_the_greatest_shape() {
+    let shape = Shape::new(20, 1024, 24, 2).unwrap();
+    let mut source = source(77, shape, 30);
+    let mut words = made(shape);
+    agree(&mut words, Call::Clock { clock: 700_000 }).unwrap();
+    for _ in 0..3000 {
+        let stamp = source.random.between(0, 700_000);
+        let volume = source.random.between(1, 30);
+        Fast::delivery(&mut words, 1, stamp, volume).unwrap();
+    }
+    for _ in 0..40 {
+        let asked = source.call(shape, words[4]);
+        let _ = agree(&mut words, asked);
+    }
+}
+
+/// A changed word: by little, or so that a sum with its neighbours is right only modulo 2^32.
+fn damage(random: &mut Random, words: &mut [u32]) {
+    let place = random.below(words.len() as u64) as usize;
+    let word = words[place];
+    let power = 1 << random.below(32);
+    words[place] = match random.below(8) {
+        0 => word.wrapping_add(1),
+        1 => word.wrapping_sub(1),
+        2 => 0,
+        3 => random.between(0, 16),
+        4 => word ^ power,
+        5 => word.wrapping_neg(),
+        6 => power,
+        _ => random.word(),
+    };
+}
+
+/// Adds a number to one word and takes it from one near it, so that sums modulo 2^32 stay.
+fn shift(random: &mut Random, words: &mut [u32]) {
+    let from = random.below(words.len() as u64) as usize;
+    let to = (from + 3 * random.below(6) as usize) % words.len();
+    let by = random.pick(&[1, 1 << 22, 1 << 24, 1 << 30, 1 << 31, u32::MAX]);
+    words[from] = words[from].wrapping_sub(by);
+    words[to] = words[to].wrapping_add(by);
+}
+
+#[test]
+fn grown_books_with_damaged_words() {
+    let mut refused = 0;
+    let mut accepted = 0;
+    for (seed, shape) in (100..).zip(shapes()) {
+        let mut source = source(seed, shape, 20);
+        for _ in 0..60 {
+            let mut words = made(shape);
+            for _ in 0..source.random.below(40) {
+                let asked = source.call(shape, words[4]);
+                let _ = call::<Fast>(&mut words, asked);
+            }
+            for _ in 0..8 {
+                let mut damaged = words.clone();
+                for _ in 0..=source.random.below(3) {
+                    let from = source.random.pick(&[0, 8, 8, 8, 8]);
+                    if source.random.one_in(3) {
+                        shift(&mut source.random, &mut damaged[from..]);
+                    } else {
+                        damage(&mut source.random, &mut damaged[from..]);
+                    }
+                }
+                let calls = [0, 1, 2].map(|_| source.call(shape, words[4]));
+                for asked in calls {
+                    match agree(&mut damaged, asked) {
+                        Err(refusal::BLOCK) => refused += 1,
+                        Ok(_) => accepted += 1,
+                        Err(_) => {}
+                    }
+                }
+            }
+        }
+    }
+    assert!(refused > 2000 && accepted > 500, "{refused} {accepted}");
+}
+
+/// Any values that matter, on every word of a level that is otherwise sound.
+#[test]
+fn every_word_of_a_small_book() {
+    let shape = Shape::new(3, 3, 5, 1).unwrap();
+    let mut words = made(shape);
+    agree(&mut words, Call::Clock { clock: 13 }).unwrap();
+    for (stamp, volume) in [(6, 3), (7, 4), (9, 5), (12, 2), (13, 1), (8, 9), (12, 6)] {
+        let asked = Call::Delivery {
+            grade: 0,
+            stamp,
+            volume,
+        };
+        agree(&mut words, asked).unwrap();
+    }
+    let (grade, window) = (0, 6);
+    for place in 0..words.len() {
+        let word = words[place];
+        let powers = (0..32).map(|bit| 1 << bit);
+        let near = powers.flat_map(|power| [word ^ power, word.wrapping_add(power), power - 1]);
+        for value in near.chain([0, u32::MAX, word.wrapping_sub(1)]) {
+            let mut changed = words.clone();
+            changed[place] = value;
+            let _ = agree(&mut changed, Call::Query { grade, window });
+        }
+    }
+}
+
+/// Whether a book is refused whose even half is sound for this total, but for the level of this index:
+/// it has these buckets. Without them the book is accepted.
+fn refuses(k: u32, index: usize, total: u32, first: u32, buckets: &[[u32; 3]]) -> bool {
+    let shape = Shape::new(k, buckets.len().max(2) as u32, 24, 1).unwrap();
+    let mut words = made(shape);
+    let last = (1 << k) - 1;
+    agree(&mut words, Call::Clock { clock: last }).unwrap();
+    let mut rest = total;
+    while rest > 0 {
+        let volume = rest.min(Shape::VOLUME_MAX);
+        Fast::delivery(&mut words, 0, last, volume).unwrap();
+        rest -= volume;
+    }
+    let (grade, window) = (0, 0);
+    agree(&mut words, Call::Query { grade, window }).unwrap();
+    let level = &mut words[shape.block(0)][shape.level(0, index)];
+    level.fill(0);
+    level[0] = buckets.len() as u32;
+    level[1] = first;
+    level[2..2 + 3 * buckets.len()].copy_from_slice(buckets.as_flattened());
+    agree(&mut words, Call::Query { grade, window }) == Err(refusal::BLOCK)
+}
+
+/// The same on level 1, where each bucket has the weight 2.
+fn refuses_spans(k: u32, spans: &[[u32; 2]]) -> bool {
+    let buckets: Vec<_> = spans.iter().map(|[o, l]| [*o, *l, 2]).collect();
+    refuses(k, 1, 2 * buckets.len() as u32, spans[0][0], &buckets)
+}
+
+#[test]
+fn offsets_and_lengths_that_are_right_only_modulo_two_to_the_32() {
+    let half = 1 << 31;
+    assert!(!refuses_spans(2, &[[0, 2], [2, 1], [3, 1]]));
+    assert!(refuses_spans(2, &[[0, half], [half, half], [0, 4]]));
+    assert!(refuses_spans(
+        2,
+        &[[0, 2], [2, 2], [4, half - 4], [half, half], [0, 4]]
+    ));
+    // Lengths that are no powers of two, of which the high bits wrap away.
+    let odd = half + 1;
+    assert!(refuses_spans(2, &[[0, odd], [odd, odd], [2, 2]]));
+    // Lengths of 0.
+    assert!(refuses_spans(2, &[[0, 0], [0, 4]]));
+    assert!(refuses_spans(2, &[[0, 2], [2, 0], [2, 2]]));
+    assert!(refuses_spans(2, &[[0, 4], [4, 0]]));
+    // Ticks, then spans that double until an offset is 0 again, then ticks to the end: the spans
+    // that wrap stand at any place of the level.
+    for (ticks, again) in [0, 1, 2, 4, 8, 16, 32, 64]
+        .into_iter()
+        .flat_map(|ticks| [1, 2, 3, 4, 5, 8, 13, 29].map(|again| (ticks, again)))
+    {
+        let mut spans: Vec<[u32; 2]> = (0..ticks).map(|tick| [tick, 1]).collect();
+        if ticks == 0 {
+            spans.push([0, 1]);
+        }
+        let mut offset = ticks.max(1);
+        while offset != 0 {
+            spans.push([offset, offset]);
+            offset = offset.wrapping_mul(2);
+        }
+        spans.extend((0..again).map(|tick| [tick, 1]));
+        let mut offset: u32 = again;
+        while offset < 1 << 6 {
+            let length = 1 << offset.trailing_zeros();
+            spans.push([offset, length]);
+            offset += length;
+        }
+        assert!(refuses_spans(6, &spans), "{ticks} {again}");
+        // Without the first round the rest is sound.
+        let rest = spans.iter().rposition(|span| span[0] == 0).unwrap();
+        assert!(!refuses_spans(6, &spans[rest..]), "{again}");
+    }
+}
+
+#[test]
+fn weights_that_are_right_only_modulo_two_to_the_32() {
+    let ticks = |count: u32, first: u32, weight: u32| -> Vec<_> {
+        (first..first + count)
+            .map(|tick| [tick, 1, weight])
+            .collect()
+    };
+    assert!(!refuses(12, 0, 35, 0, &ticks(7, 0, 5)));
+    for bits in 22..32 {
+        let count = 1 << (32 - bits);
+        // They add up to 2^32, alone and with a few more.
+        assert!(refuses(12, 0, 0, 0, &ticks(count, 0, 1 << bits)));
+        if bits > 22 {
+            let mut more = ticks(count, 0, 1 << bits);
+            more.push([count, 1, 5]);
+            assert!(refuses(12, 0, 5, 0, &more));
+        }
+        for index in 1..4 {
+            let first = 4096 - count;
+            assert!(refuses(
+                12,
+                index,
+                0,
+                first,
+                &ticks(count, first, 1 << bits)
+            ));
+            let mut half = ticks(count, first, 1 << bits);
+            half[0][2] -= 1;
+            assert!(refuses(12, index, 0, first, &half));
+            half[1][2] += 1 << index;
+            assert!(refuses(12, index, 1 << 12, first, &half));
+        }
+    }
+}
+
+#[test]
+fn slices_of_any_length() {
+    let mut random = Random::new(9);
+    for shape in shapes().into_iter().take(5) {
+        let mut source = source(random.bits(), shape, 3);
+        let book = made(shape);
+        for _ in 0..300 {
+            let mut words = book.clone();
+            let length = match source.random.below(4) {
+                0 => source.random.below(12) as usize,
+                1 => words.len() - 1,
+                2 => words.len() + 1,
+                _ => source.random.below(2 * words.len() as u64) as usize,
+            };
+            words.resize(length, 0);
+            for asked in [0, 1, 2].map(|_| source.call(shape, 7)) {
+                let _ = agree(&mut words, asked);
+            }
+            let [k, n, m, g] = [shape.k(), shape.n(), shape.m(), shape.g()];
+            let _ = agree(&mut words, Call::Make { k, n, m, g });
+        }
+    }
+}
+
+#[test]
+fn random_words() {
+    let shape = Shape::new(2, 2, 2, 1).unwrap();
+    let mut source = source(10, shape, 3);
+    for _ in 0..30_000 {
+        let mut words = vec![0; shape.book_length()];
+        for word in &mut words {
+            *word = match source.random.below(4) {
+                0 => source.random.word(),
+                1 => 0,
+                _ => source.random.between(0, 9),
+            };
+        }
+        if !source.random.one_in(8) {
+            words[..8].copy_from_slice(&[2, 2, 2, 1, 7, 0, 0, 0]);
+        }
+        let asked = source.call(shape, words[4] % 1000);
+        let _ = agree(&mut words, asked);
+    }
+}

@@ -204,13 +204,14 @@ pub fn sum(block: &[u32], s: Shape, clock: u32, start: u32) -> u64
     ensures { λ r. ⌜ r ≡ answer s clock start (decodeBlock s (now (block .entry))) ⌝ }
 {
     let from = interval(s, start);
-    let now = interval(s, clock);
+    let current = interval(s, clock);
     let a = offset(s, start);
     let parity = parity(from);
     let i = finest(block, s, parity, a);
     let sum = scan::sum_from(level_at(block, s, parity, i), a);
-    if from == now {
+    let rest = total(block, current);
+    if from == current {
         return sum;
     }
-    sum + total(block, now)
+    sum + rest
 }

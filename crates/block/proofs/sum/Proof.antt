@@ -62,29 +62,29 @@ sum-from-requires c κs =
     let few = count-few (a .s) (a .block .now) (d .pre) parity half i low in
     rw (c .level-at .ensures) (omega arith, omega arith)
 
+total-requires : tie.Need-total-requires
+total-requires c κs = let d = c .before .before .before .before .before .before .before .before in omega (arith, blockWords-halves (d .args .s), d .pre .size)
+
 returns : tie.Need-returns
 returns c =
-    let i = c .before .before .before .before .before .before in
+    let i = c .before .before .before .before .before .before .before in
     let a = i .before .before .before .args in
     let same = sym (i .before .interval .ensures) ∙ c .if1 .taken ∙ i .interval2 .ensures in
-    rw (answer-decode (a .s) (a .clock) (a .start) (a .block .now), eq-eqb _ _ same) (sum-is (c .before))
-
-total-requires : tie.Need-total-requires
-total-requires c κs = let d = c .before .before .before .before .before .before .before .before .before in omega (arith, blockWords-halves (d .args .s), d .pre .size)
+    rw (answer-decode (a .s) (a .clock) (a .start) (a .block .now), eq-eqb _ _ same) (sum-is (c .before .before))
 
 add-result : tie.Need-add-result
 add-result c =
     let d = c .before .before .before .before .before .before .before .before .before .before in
-    let small : c .total .result ≤ 2 ^ 24 = rw (c .total .ensures) (total-small (d .args .s) (d .args .block .now) (d .pre) _ (omega arith)) in
+    let small : c .before .total .result ≤ 2 ^ 24 = rw (c .before .total .ensures) (total-small (d .args .s) (d .args .block .now) (d .pre) _ (omega arith)) in
     omega (arith, sum-low (c .before .before))
 
 returns-2 : tie.Need-returns-2
 returns-2 c =
     let i = c .before .before .before .before .before .before .before in
     let a = i .before .before .before .args in
-    let apart : (interval (a .s) (a .start) ≡ interval (a .s) (a .clock)) → ⊥ = λ q. c .before .if1 .left (i .before .interval .ensures ∙ q ∙ sym (i .interval2 .ensures)) in
-    let current : c .total .result ≡ getD (a .block .now) (interval (a .s) (a .clock) % 2) 0 =
-    c .total .ensures ∙ ap (λ (j : ℕ). getD (a .block .now) (j % 2) 0) (i .interval2 .ensures) in
+    let apart : (interval (a .s) (a .start) ≡ interval (a .s) (a .clock)) → ⊥ = λ q. c .if1 .left (i .before .interval .ensures ∙ q ∙ sym (i .interval2 .ensures)) in
+    let current : c .before .total .result ≡ getD (a .block .now) (interval (a .s) (a .clock) % 2) 0 =
+    c .before .total .ensures ∙ ap (λ (j : ℕ). getD (a .block .now) (j % 2) 0) (i .interval2 .ensures) in
     rw (answer-decode (a .s) (a .clock) (a .start) (a .block .now), ne-eqb _ _ apart, ← sum-is (c .before .before), ← current)
 
 pub sum-spec : {M : Type 1} → statement M
@@ -98,7 +98,7 @@ sum-spec =
     finest-requires
     level-at-requires
     sum-from-requires
-    returns
     total-requires
+    returns
     add-result
     returns-2)

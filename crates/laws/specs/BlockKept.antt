@@ -1,9 +1,9 @@
 -- Delivery and clock keep a sound block sound, grown or not; and on every sound half some level serves each opening.
 -- Rests on the soundness of one level being kept.
-use mathlib.Core.Bool.{Bool, true, false, cond}
-use mathlib.Core.Path.{_≡_, refl, sym, ap, _∙_}
+use mathlib.Core.Bool.{true}
+use mathlib.Core.Path.{_≡_, refl, ap, _∙_}
 use mathlib.Core.Logic.{⊎-elim}
-use mathlib.Core.List.{List, [], _∷_}
+use mathlib.Core.List.{_∷_}
 use Prim.Native.Nat.{ℕ, zero, suc, _+_, _*_, _%_, _^_, _≤_, _<_}
 use native.Mathlib.Nat.{mul-le-mul-right, mod-lt, add-zero, add-suc, suc-add}
 use native.Mathlib.Omega.{arith}
@@ -13,7 +13,7 @@ use lib.ListN.{length}
 use Rattle.shape.specs.declared.Shape.{Shape}
 use Rattle.shape.specs.Layout.{blockWords}
 use Rattle.model.specs.Level.{Level, insert, emptyLevel}
-use Rattle.model.specs.Block.{Half, Block, upFrom, emptyHalf, insertAll, deliverHalf, deliver, halfOf, withHalf, interval, offsetOf, advance, empties, serving}
+use Rattle.model.specs.Block.{Half, Block, upFrom, emptyHalf, insertAll, deliverHalf, deliver, halfOf, interval, offsetOf, advance, empties, serving}
 use Rattle.model.specs.Words.{encodeBlock}
 use Rattle.model.specs.Sound.{soundBlock}
 use Rattle.laws.specs.Cases.{by-test, by-le, lt-or-ge}

@@ -2,7 +2,7 @@
 -- block. Rests on halves written level by level, and on insertion keeping a level sound.
 use mathlib.Core.Path.{_≡_, refl, sym, ap, _∙_}
 use mathlib.Core.List.{List}
-use Prim.Native.Nat.{ℕ, zero, suc, _+_, _-_, _%_, _^_, _≤_, _<_}
+use Prim.Native.Nat.{ℕ, suc, _+_, _-_, _%_, _^_, _≤_, _<_}
 use native.Mathlib.Nat.{mod-lt}
 use native.Mathlib.Omega.{arith}
 use lib.ListN.{length, getD, set}
@@ -10,7 +10,7 @@ use lib.Pow.{pow-pos}
 use Rattle.shape.specs.declared.Shape.{Shape}
 use Rattle.shape.specs.Layout.{levelWords, blockWords}
 use Rattle.model.specs.Level.{Level, insert}
-use Rattle.model.specs.Block.{Half, upFrom, interval, offsetOf, withHalf, insertAll, deliverHalf, deliver}
+use Rattle.model.specs.Block.{Half, interval, offsetOf, withHalf, deliverHalf, deliver}
 use Rattle.model.specs.Words.{levelPart, decodeLevel, decodeHalf, decodeBlock, encodeLevel, encodeBlock}
 use Rattle.laws.specs.LevelWords.{length-encode}
 use Rattle.laws.specs.Kept.{insert-sound}

@@ -11,7 +11,7 @@ use borrow.Author.Tests.{ne-eqb}
 use Rattle.shape.specs.declared.Shape.{Shape}
 use Rattle.shape.specs.Layout.{levelWords, blockWords}
 use Rattle.model.specs.Level.{emptyLevel}
-use Rattle.model.specs.Block.{Half, Block, interval, halfOf, withHalf, emptyHalf, empties, advance}
+use Rattle.model.specs.Block.{Half, Block, interval, halfOf, withHalf, emptyHalf, advance}
 use Rattle.model.specs.BlockLaws.{empties-same, empties-next, empties-other}
 use Rattle.model.specs.Words.{levelPart, decodeLevel, decodeHalf, decodeBlock, encodeLevel, encodeBlock}
 use Rattle.model.specs.Sound.{soundHalf}

@@ -1,21 +1,20 @@
 -- Book and ledger find the same first refusal for every call.
 -- Rests on the words of a ledger being a sound book.
-use mathlib.Core.Bool.{Bool, true, false, cond, not, _||_}
-use mathlib.Core.Path.{_≡_, refl, sym, ap, _∙_}
-use mathlib.Core.List.{List, [], _∷_, _++_}
-use Prim.Native.Nat.{ℕ, zero, suc, _+_, _%_, _^_, _≤_, _<_}
-use native.Mathlib.Omega.{arith}
-use lib.Dec.{ltb, leb, eqb}
+use mathlib.Core.Bool.{true, not, _||_}
+use mathlib.Core.Path.{_≡_, refl, ap}
+use mathlib.Core.List.{List}
+use Prim.Native.Nat.{ℕ, _+_, _^_, _≤_, _<_}
+use lib.Dec.{ltb, eqb}
 use lib.ListN.{length}
-use borrow.Author.Tests.{not-false, ltb-true, ltb-false, eqb-true}
+use borrow.Author.Tests.{not-false, ltb-true, ltb-false}
 use Rattle.shape.specs.declared.Shape.{Shape}
-use Rattle.shape.specs.Limits.{shaped, within}
+use Rattle.shape.specs.Limits.{shaped}
 use Rattle.shape.specs.Layout.{bookWords}
 use Rattle.model.specs.declared.Call.{Call}
 use Rattle.model.specs.declared.Call.the-variants.{Make, Clock, Delivery, Query}
 use Rattle.model.specs.Block.{Half, interval, late, halfOf}
 use Rattle.model.specs.Words.{blockPart, decodeBlock}
-use Rattle.model.specs.Sound.{allFrom, maxClock, soundHead, soundBlock}
+use Rattle.model.specs.Sound.{allFrom, soundHead, soundBlock}
 use Rattle.model.specs.Calls.{View, firstOf, refusals, bookView}
 use Rattle.model.specs.Ledger.{Entry, ledgerOf, ledgerView, volumeOf, ofInterval}
 use Rattle.laws.specs.Parts.{allFrom-intro}
@@ -23,7 +22,7 @@ use Rattle.laws.specs.Refusals.{past}
 use Rattle.ledger.specs.Time.{interval-mono, interval-near}
 use Rattle.ledger.specs.Grown.{halfFed}
 use Rattle.ledger.specs.Book.{halfOf-served}
-use Rattle.ledger.specs.State.{Good, wordsOf, words-length, words-head, words-block, words-sound, words-all-sound}
+use Rattle.ledger.specs.State.{Good, wordsOf, words-head, words-block, words-sound, words-all-sound}
 
 module _ (k n m g clock : ℕ) (es : List Entry) where
   abbrev s : Shape

@@ -8,17 +8,15 @@ use Prim.Native.Nat.{ℕ, _+_, _^_, _≤_, _<_}
 use native.Mathlib.Omega.{arith}
 use lib.Dec.{ltb, eqb}
 use lib.ListN.{length, getD}
-use borrow.Author.Tests.{not-false, ltb-true, ltb-false, eqb-true}
 use Rattle.shape.specs.declared.Shape.{Shape}
 use Rattle.shape.specs.Limits.{Reply, accepted, refused}
 use Rattle.shape.specs.Layout.{bookWords, blockWords, blockStart}
-use Rattle.model.specs.declared.Call.{Call}
-use Rattle.model.specs.declared.Call.the-variants.{Make, Clock, Delivery, Query}
-use Rattle.model.specs.Block.{Block, interval, halfOf, late, opening, answer, deliver}
+use Rattle.model.specs.declared.Call.the-variants.{Delivery, Query}
+use Rattle.model.specs.Block.{Block, opening, answer, deliver}
 use Rattle.model.specs.Words.{shapeOf, clockOf, blockPart, decodeBlock, encodeBlock, withBlock}
 use Rattle.model.specs.Sound.{soundHead, soundBlock}
 use Rattle.model.specs.Calls.{View, blockAt, firstOf, opened, refusals, bookView, outcomeOf, accept, perform, delivered}
-use Rattle.laws.specs.Cases.{eq-or-ne, by-test}
+use Rattle.laws.specs.Cases.{eq-or-ne}
 use Rattle.laws.specs.Proper.{Proper}
 use Rattle.laws.specs.BlockWords.{soundBlock-decode}
 use Rattle.laws.specs.BlockKept.{deliver-both, both-size}

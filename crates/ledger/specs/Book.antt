@@ -1,15 +1,14 @@
 -- The block of a grade as a function of the ledger: one more entry is a delivery, a later clock an advance. Assumes nothing.
-use mathlib.Core.Bool.{Bool, true, false, cond, _&&_}
+use mathlib.Core.Bool.{true, false, cond}
 use mathlib.Core.Path.{_≡_, refl, sym, ap, ap₂, _∙_}
 use mathlib.Core.Logic.{⊎-elim}
 use mathlib.Core.List.{List, [], _∷_}
-use Prim.Native.Nat.{ℕ, zero, suc, _+_, _%_, _^_, _≤_, _<_}
+use Prim.Native.Nat.{ℕ, zero, suc, _+_, _%_, _≤_, _<_}
 use native.Mathlib.Omega.{arith}
 use lib.Dec.{eqb}
 use borrow.Author.Tests.{eq-eqb, ne-eqb}
 use Rattle.shape.specs.declared.Shape.{Shape}
 use Rattle.model.specs.Block.{Half, Block, interval, offsetOf, halfOf, emptyHalf, empties, advance, deliver, deliverHalf}
-use Rattle.model.specs.BlockLaws.{halfOf-advance}
 use Rattle.model.specs.Ledger.{Entry, ofInterval}
 use Rattle.model.specs.Claim.{Each}
 use Rattle.laws.specs.Cases.{and-false}

@@ -1,6 +1,6 @@
 -- Demand 3, whole: `Claim` of the model, by one induction over the list of calls. The invariant is that the words are those of the
 -- ledger. Rests on `agree` (the same first refusal), on what each accepted call leaves, and on the bound of an answer.
-use mathlib.Core.Bool.{Bool, true, false}
+use mathlib.Core.Bool.{true}
 use mathlib.Core.Path.{_≡_, refl, sym, ap, _∙_}
 use mathlib.Core.Logic.{⊎-elim}
 use mathlib.Core.List.{List, [], _∷_}
@@ -15,16 +15,16 @@ use Rattle.model.specs.declared.Call.{Call}
 use Rattle.model.specs.declared.Call.the-variants.{Make, Clock, Delivery, Query}
 use Rattle.model.specs.Block.{late, answer, opening}
 use Rattle.model.specs.Words.{shapeOf, clockOf}
-use Rattle.model.specs.Calls.{View, blockAt, firstOf, refusals, bookView, accept, perform, made, clocked, delivered}
+use Rattle.model.specs.Calls.{View, blockAt, firstOf, refusals, bookView, accept, perform, clocked, delivered}
 use Rattle.model.specs.Ledger.{Entry, Ledger, ledgerOf, ledgerView, note, enter}
-use Rattle.model.specs.Claim.{Turn, run, Each, ByCall, Bound, Span, Outside, Missed, Kept, Claim}
+use Rattle.model.specs.Claim.{Turn, run, ByCall, Bound, Span, Outside, Kept, Claim}
 use Rattle.laws.specs.Cases.{eq-or-ne}
 use Rattle.laws.specs.Refusals.{accepted-make, accepted-clock, accepted-delivery, accepted-query, late-delivery, settle-accepted, settle-refused, perform-number, enter-number}
 use Rattle.ledger.specs.Time.{late-outside}
 use Rattle.ledger.specs.Book.{blockFor}
 use Rattle.ledger.specs.State.{Good, wordsOf}
 use Rattle.ledger.specs.Agree.{agree}
-use Rattle.ledger.specs.Next.{made-words, made-good, shape-is, clock-is, block-is, clocked-words, clocked-good, delivered-words, delivered-good}
+use Rattle.ledger.specs.Next.{made-words, made-good, shape-is, block-is, clocked-words, clocked-good, delivered-words, delivered-good}
 use Rattle.ledger.specs.Window.{answer-admits}
 
 -- what a call leads to: the words and the ledger afterwards, which stand for each other; within a span k stays and the clock does not fall

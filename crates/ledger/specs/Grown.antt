@@ -1,16 +1,16 @@
 -- The half and the block that a list of entries stands for. A half is a fold over the entries that satisfy a test. Assumes nothing.
 use mathlib.Core.Bool.{Bool, true, false, cond, _&&_}
-use mathlib.Core.Path.{_≡_, refl, sym, ap, ap₂, _∙_}
-use mathlib.Core.List.{List, [], _∷_, _++_}
-use Prim.Native.Nat.{ℕ, zero, suc, _+_, _-_, _*_, _%_, _^_, _≤_, _<_}
+use mathlib.Core.Path.{_≡_, refl, sym, ap₂, _∙_}
+use mathlib.Core.List.{List, [], _∷_}
+use Prim.Native.Nat.{ℕ, suc, _+_, _-_}
 use native.Mathlib.Nat.{add-comm, zero-add}
 use native.Mathlib.Omega.{arith}
-use lib.Dec.{leb, eqb}
+use lib.Dec.{leb}
 use borrow.Author.Tests.{le-leb}
 use Rattle.shape.specs.declared.Shape.{Shape}
-use Rattle.model.specs.Level.{Level, insert, emptyLevel}
-use Rattle.model.specs.Block.{Half, Block, upFrom, interval, offsetOf, emptyHalf, insertAll, deliverHalf}
-use Rattle.model.specs.Ledger.{Entry, Ledger, volumeOf, ofInterval}
+use Rattle.model.specs.Level.{Level}
+use Rattle.model.specs.Block.{Half, upFrom, offsetOf, emptyHalf, deliverHalf}
+use Rattle.model.specs.Ledger.{Entry, volumeOf}
 use Rattle.model.specs.Claim.{Each}
 use Rattle.ledger.specs.Time.{offset-lt}
 use Rattle.laws.specs.BlockKept.{insertAll-upFrom}

@@ -3,15 +3,14 @@ use mathlib.Core.Bool.{Bool, true, false, cond}
 use mathlib.Core.Path.{_≡_, refl, sym, ap, ap₂, _∙_}
 use mathlib.Core.Logic.{⊎-elim}
 use mathlib.Core.List.{List, [], _∷_, _++_}
-use Prim.Native.Nat.{ℕ, zero, suc, _+_, _%_, _^_, _≤_, _<_}
+use Prim.Native.Nat.{ℕ, _+_, _%_, _^_, _≤_, _<_}
 use native.Mathlib.Omega.{arith}
 use lib.Dec.{eqb}
-use lib.ListN.{replicate}
 use borrow.Author.Tests.{eq-eqb, ne-eqb, eqb-true}
 use Rattle.shape.specs.declared.Shape.{Shape}
 use Rattle.shape.specs.Limits.{shaped, within}
-use Rattle.shape.specs.LimitsLaws.{both, Limits, within-limits}
-use Rattle.model.specs.Block.{Half, Block, upFrom, interval, emptyHalf, advance, deliver}
+use Rattle.shape.specs.LimitsLaws.{both, within-limits}
+use Rattle.model.specs.Block.{Half, interval, emptyHalf, advance, deliver}
 use Rattle.model.specs.Words.{withBlock, shapeOf, clockOf, encodeHead, encodeBlock, join}
 use Rattle.model.specs.Sound.{maxClock}
 use Rattle.model.specs.Calls.{blockAt, made, clocked, delivered}

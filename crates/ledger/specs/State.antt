@@ -1,9 +1,9 @@
 -- The words that a ledger stands for: they are a sound book, and its blocks are those of the ledger. Rests on the codec's laws and on
 -- the soundness of fed levels.
-use mathlib.Core.Bool.{Bool, true, false, cond}
-use mathlib.Core.Path.{_≡_, refl, sym, ap, _∙_}
-use mathlib.Core.List.{List, [], _∷_}
-use Prim.Native.Nat.{ℕ, zero, suc, _+_, _^_, _≤_, _<_}
+use mathlib.Core.Bool.{true}
+use mathlib.Core.Path.{_≡_, refl}
+use mathlib.Core.List.{List}
+use Prim.Native.Nat.{ℕ, _^_, _≤_, _<_}
 use native.Mathlib.Omega.{arith}
 use lib.ListN.{length}
 use Rattle.shape.specs.declared.Shape.{Shape}
@@ -13,8 +13,7 @@ use Rattle.shape.specs.LimitsLaws.{Limits}
 use Rattle.model.specs.Block.{Block, interval}
 use Rattle.model.specs.Words.{encodeBlock, decodeBlock, blockPart}
 use Rattle.model.specs.Sound.{allFrom, soundBlock, soundHead, maxClock}
-use Rattle.model.specs.Calls.{blockAt}
-use Rattle.model.specs.Ledger.{Entry, Ledger, ledgerOf, volumeOf, ofInterval}
+use Rattle.model.specs.Ledger.{Entry, volumeOf, ofInterval}
 use Rattle.model.specs.Claim.{Each}
 use Rattle.laws.specs.SoundFacts.{sound-tests}
 use Rattle.laws.specs.Parts.{allFrom-intro}

@@ -1,13 +1,13 @@
 -- Stamps by their interval and offset. Assumes nothing.
-use mathlib.Core.Bool.{Bool, true, false, _&&_}
-use mathlib.Core.Path.{_≡_, refl, sym, ap, _∙_}
+use mathlib.Core.Bool.{true, false}
+use mathlib.Core.Path.{_≡_, ap}
 use mathlib.Core.Logic.{⊎-elim}
-use Prim.Native.Nat.{ℕ, suc, _+_, _-_, _*_, _/_, _%_, _^_, _≤_, _<_}
+use Prim.Native.Nat.{ℕ, _+_, _-_, _*_, _^_, _≤_, _<_}
 use native.Mathlib.Nat.{mul-le-mul-right, add-mul, mod-lt}
 use native.Mathlib.Omega.{arith}
 use lib.Pow.{pow-pos, shr-mono}
 use lib.Pow
-use borrow.Author.Tests.{lt-ltb, le-ltb, le-leb, lt-leb, ltb-true, leb-true}
+use borrow.Author.Tests.{lt-leb, ltb-true}
 use Rattle.shape.specs.declared.Shape.{Shape}
 use Rattle.model.specs.Block.{interval, offsetOf, opening, covers, late}
 use Rattle.laws.specs.Cases.{lt-or-ge}

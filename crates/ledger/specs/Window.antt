@@ -1,9 +1,9 @@
 -- What a window covers, by interval and offset; and the sum of a question beside the ledger's. Rests on the relative bound of fed levels.
 use mathlib.Core.Bool.{Bool, true, false, cond, _&&_}
-use mathlib.Core.Path.{_≡_, refl, sym, ap, _∙_}
+use mathlib.Core.Path.{_≡_, refl, sym, _∙_}
 use mathlib.Core.Logic.{⊎-elim}
 use mathlib.Core.List.{List, [], _∷_}
-use Prim.Native.Nat.{ℕ, zero, suc, _+_, _-_, _*_, _%_, _^_, _≤_, _<_}
+use Prim.Native.Nat.{ℕ, _+_, _-_, _*_, _^_, _≤_, _<_}
 use native.Mathlib.Nat.{le-refl, mul-le-mul-right}
 use native.Mathlib.Omega.{arith}
 use lib.Dec.{leb, eqb}
@@ -11,7 +11,7 @@ use lib.Pow.{pow-pos}
 use borrow.Author.Tests.{le-leb, lt-leb, eq-eqb, ne-eqb}
 use Rattle.shape.specs.declared.Shape.{Shape}
 use Rattle.shape.specs.Limits.{shaped}
-use Rattle.model.specs.Block.{Half, interval, offsetOf, opening, covers, halfOf, answer, sumFrom, serving}
+use Rattle.model.specs.Block.{interval, offsetOf, opening, answer, sumFrom, serving}
 use Rattle.model.specs.Ledger.{Entry, volumeOf, ofInterval, ofWindow}
 use Rattle.model.specs.Claim.{Each, Admits}
 use Rattle.laws.specs.Cases.{lt-or-ge, eq-or-ne}

@@ -1,9 +1,8 @@
 -- Which halves the clock empties, by how many intervals it passes. Assumes nothing.
-use mathlib.Core.Bool.{Bool, true, false, cond}
+use mathlib.Core.Bool.{true, false, cond}
 use mathlib.Core.Path.{_≡_, refl}
 use Prim.Native.Nat.{ℕ, zero, suc, _+_, _%_, _<_}
 use native.Mathlib.Omega.{arith}
-use lib.Dec.{eqb}
 use borrow.Author.Tests.{eq-eqb, ne-eqb}
 use Rattle.shape.specs.declared.Shape.{Shape}
 use Rattle.model.specs.Block.{Block, interval, halfOf, emptyHalf, empties, advance}

@@ -1,5 +1,5 @@
 -- Document 01's number and values for each case of the code's answer. Assumes nothing.
-use mathlib.Core.List.{List, [], _∷_}
+use mathlib.Core.List.{[], _∷_}
 use Prim.Native.Nat.{ℕ}
 use Rattle.shape.specs.Limits.{Reply, refused, accepted}
 use Rattle.model.specs.declared.Refusal.{Refusal}

@@ -1,9 +1,9 @@
 -- What a delivery into a block asks, and what each level is then asked. Rests on the delivery as writes of levels.
-use mathlib.Core.Path.{_≡_, sym, ap, _∙_}
+use mathlib.Core.Path.{_≡_}
 use mathlib.Core.List.{List}
 use Prim.Native.Nat.{ℕ, suc, _+_, _%_, _^_, _≤_, _<_}
 use native.Mathlib.Omega.{arith}
-use lib.ListN.{length, getD}
+use lib.ListN.{getD}
 use Rattle.shape.specs.declared.Shape.{Shape}
 use Rattle.model.specs.Level.{insert}
 use Rattle.model.specs.Block.{interval, offsetOf}

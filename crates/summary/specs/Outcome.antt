@@ -1,11 +1,11 @@
 -- What each call answers and leaves, by the number of its first refusal; and the words that make and clock write. Rests on the laws of
 -- the refusals and of the book's parts.
-use mathlib.Core.Bool.{Bool, true, false, cond, not}
+use mathlib.Core.Bool.{true, false}
 use mathlib.Core.Path.{_≡_, refl, sym, ap, _∙_}
-use mathlib.Core.List.{List, [], _∷_, _++_}
+use mathlib.Core.List.{List, [], _++_}
 use Prim.Native.Nat.{ℕ, _+_, _*_, _≤_, _<_}
 use native.Mathlib.Omega.{arith}
-use lib.ListN.{length, take, drop, length-append, length-drop}
+use lib.ListN.{length, take, drop, length-drop}
 use lib.Seq.{drop-append-add, drop-drop}
 use borrow.Author.Tests.{eq-eqb, ne-eqb}
 use Rattle.shape.specs.declared.Shape.{Shape}
@@ -19,7 +19,7 @@ use Rattle.model.specs.declared.Answer.the-variants.{Done, Sum, Refused}
 use Rattle.model.specs.Block.{upFrom, interval, opening, advance, deliver, answer}
 use Rattle.model.specs.Words.{shapeOf, clockOf, blockPart, decodeBlock, encodeBlock, encodeHead, withBlock, join}
 use Rattle.model.specs.Sound.{soundBlock}
-use Rattle.model.specs.Calls.{blockAt, firstOf, refusals, bookView, Outcome, outcomeOf, accept, perform, made, clocked, delivered}
+use Rattle.model.specs.Calls.{blockAt, refusals, bookView, outcomeOf, accept, perform, made, clocked, delivered}
 use Rattle.model.specs.Reply.{numberOf, replyOf}
 use Rattle.laws.specs.Proper.{Proper}
 use Rattle.laws.specs.Halves.{total-decode}

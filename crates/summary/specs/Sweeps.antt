@@ -1,7 +1,7 @@
 -- What the loops over the grades are asked and leave. Rests on the laws of a swept book.
 use mathlib.Core.Bool.{true}
-use mathlib.Core.Path.{_≡_, refl, sym, ap, _∙_}
-use mathlib.Core.List.{List, _++_}
+use mathlib.Core.Path.{_≡_}
+use mathlib.Core.List.{List}
 use Prim.Native.Nat.{ℕ, _+_, _≤_, _<_}
 use native.Mathlib.Omega.{arith}
 use lib.ListN.{length}
@@ -12,7 +12,7 @@ use Rattle.model.specs.Words.{blockPart, decodeBlock, encodeBlock}
 use Rattle.model.specs.Sound.{soundBlock}
 use Rattle.laws.specs.Proper.{Proper}
 use Rattle.laws.specs.BlockWords.{soundBlock-decode}
-use Rattle.laws.specs.BookWords.{blockStart-fits, length-blockPart}
+use Rattle.laws.specs.BookWords.{blockStart-fits}
 use Rattle.laws.specs.BlockKept.{empty-half, advance-both, both-size}
 
 -- a grade of a book of this shape

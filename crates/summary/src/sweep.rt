@@ -5,7 +5,7 @@ ghost use mathlib.Core.List.{_++_};
 ghost use lib.ListN.{length, take};
 ghost use Rattle.shape.specs.Layout.{bookWords};
 ghost use Rattle.model.specs.Block.{upFrom, advance};
-ghost use Rattle.model.specs.Words.{blockPart, decodeBlock, encodeBlock, withBlock, join};
+ghost use Rattle.model.specs.Words.{blockPart, withBlock, join};
 ghost use Rattle.model.specs.Sound.{soundBlock};
 ghost use mathlib.Core.Bool.{true};
 ghost use Rattle.laws.specs.Proper.{Proper};

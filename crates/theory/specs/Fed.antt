@@ -1,10 +1,10 @@
 -- A level fed a list of events, the latest first, is sound, follows what they count, and so is near it. Assumes nothing.
-use mathlib.Core.Path.{_≡_, refl, ap}
+use mathlib.Core.Path.{_≡_, refl}
 use mathlib.Core.List.{List, [], _∷_}
-use Prim.Native.Nat.{ℕ, zero, suc, _+_, _*_, _^_, _≤_, _<_}
+use Prim.Native.Nat.{ℕ, _+_, _*_, _^_, _≤_, _<_}
 use native.Mathlib.Omega.{arith}
 use Rattle.model.specs.Level.{Level, insert, emptyLevel}
-use Rattle.model.specs.Block.{sumFrom, upFrom, insertAll}
+use Rattle.model.specs.Block.{sumFrom}
 use Rattle.model.specs.Claim.{Each}
 use Rattle.laws.specs.Cases.{Near}
 use Rattle.laws.specs.Tally.{more, share-all}

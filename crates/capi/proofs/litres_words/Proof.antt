@@ -1,5 +1,5 @@
 -- The constructor tells whether the shape is within its limits.
-use mathlib.Core.Path.{refl, sym, ap, _∙_}
+use mathlib.Core.Path.{sym, ap, _∙_}
 use Rattle.shape.specs.Limits.{replyOf}
 use Rattle.shape.specs.LimitsLaws.{checked-within, checked-outside}
 use Rattle.shape.specs.Layout.{bookWords}

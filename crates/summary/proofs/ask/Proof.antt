@@ -1,6 +1,5 @@
 -- The block of the grade alone is handed on; its sum is the answer.
 use borrow.Author.Needs.{needs}
-use mathlib.Core.Path.{sym, _∙_}
 use Rattle.summary.specs.Judge.{open-inside, open-whole}
 use Rattle.summary.specs.Outcome.{query-inside, query-sound, asked-outcome}
 use Rattle.summary.proofs.ask.Statement.{statement}

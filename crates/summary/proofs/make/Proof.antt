@@ -1,14 +1,12 @@
 -- The constructor refuses what is outside the limits; else the shape is the one of these numbers.
 use borrow.Author.Needs.{needs}
 use mathlib.Core.Path.{refl, sym, ap, _∙_}
-use Prim.Native.Nat.{ℕ}
 use Rattle.shape.specs.declared.Shape.{Shape}
 use Rattle.shape.specs.Limits.{replyOf}
 use Rattle.shape.specs.LimitsLaws.{checked-within, checked-outside, within-limits}
 use Rattle.model.specs.declared.Call.the-variants.{Make}
 use Rattle.model.specs.declared.Refusal.the-variants as Refusal
 use Rattle.model.specs.Calls.{perform}
-use Rattle.laws.specs.Proper.{Proper}
 use Rattle.summary.specs.Outcome.{refused-outcome, make-outside}
 use Rattle.summary.proofs.make.Statement.{statement}
 use Rattle.summary.proofs.make.Tie as tie

@@ -1,6 +1,5 @@
 -- The head is written anew, the blocks stay sound under it and are advanced.
 use borrow.Author.Needs.{needs}
-use mathlib.Core.Path.{sym, _∙_}
 use Rattle.summary.specs.Judge.{open-size}
 use Rattle.summary.specs.Outcome.{book-long, headed-sound, clocked-outcome}
 use Rattle.summary.proofs.set_clock.Statement.{statement}

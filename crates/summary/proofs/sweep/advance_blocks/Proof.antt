@@ -1,13 +1,11 @@
 -- After each turn one block more is advanced and the others are as they were.
 use borrow.Author.Needs.{needs}
-use mathlib.Core.Path.{_≡_, refl, sym, ap, _∙_}
-use mathlib.Core.List.{List, _++_}
-use Prim.Native.Nat.{ℕ, suc, _+_, _-_, _≤_, _<_}
+use mathlib.Core.Path.{_≡_, refl, sym, _∙_}
+use Prim.Native.Nat.{_-_, _≤_}
 use native.Mathlib.Numerals.{add-one}
-use lib.ListN.{length, take}
-use Rattle.model.specs.Words.{blockPart, withBlock}
+use lib.ListN.{length}
 use Rattle.laws.specs.Sweep.{swept, swept-none, swept-part, swept-more, swept-all}
-use Rattle.summary.specs.Sweeps.{emptied, emptied-size, advanced, advanced-size}
+use Rattle.summary.specs.Sweeps.{advanced, advanced-size}
 use native.Mathlib.Omega.{arith}
 use Rattle.summary.proofs.sweep.advance_blocks.Statement.{statement}
 use Rattle.summary.proofs.sweep.advance_blocks.Tie as tie

@@ -35,11 +35,11 @@ module _ {s : Shape} {i x v : ℕ} {ws : List ℕ} (o : Open s i x v ws) where
   held : ws ≡ encodeLevel (s .n) (decodeLevel ws)
   held = sym (encode-decode-sound s i (o .total) ws (o .sound) (o .size))
 
-  pub few : getD ws 0 0 ≤ s .n
+  few : getD ws 0 0 ≤ s .n
   unfolding decodeLevel
   few = omega (arith, sound .few, length-slots ws 0 (getD ws 0 0))
 
-  -- what a search asks
+  -- what the search asks of a level
   pub searchable : (2 + 3 * getD ws 0 0 ≤ length ws) × EndsRise 0 (decodeLevel ws .buckets)
   searchable = (omega (arith, few, o .size), sound-rises (s .k) i (decodeLevel ws .first) (decodeLevel ws .buckets) (sound .parts))
 

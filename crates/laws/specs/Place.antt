@@ -48,6 +48,7 @@ chained-rises : (k i count a f : ℕ) (bs : List Bucket) → a ≤ f → Chained
 chained-rises k i count a f [] h c = tt
 chained-rises k i count a f (b ∷ bs) h c = (omega (arith, c .0 .at), chained-rises k i count (endOf b) (endOf b) bs (omega arith) (c .1))
 
+-- at level 0 each bucket stands above the last, at the others it starts where the last one ended
 pub sound-rises : (k i f : ℕ) (bs : List Bucket) → SoundBuckets k i f bs → EndsRise 0 bs
 sound-rises k zero f bs s = rising-rises k 0 f bs (omega arith) (s .1)
 sound-rises k (suc j) f bs s = chained-rises k (suc j) (length bs) 0 f bs (omega arith) (s .1)

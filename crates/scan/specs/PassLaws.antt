@@ -36,12 +36,12 @@ below-none : (x y : ℕ) → y ≤ x → below x y ≡ 0
 below-none x y h = rw (le-ltb x y h)
 
 -- a length that the number before it, below 2 ^ k, shows to be within 2 ^ k
-record Length (k w : ℕ) : Type 0 where
-  some : 0 < w
-  before : less w ≡ w - 1
-  most : w ≤ 2 ^ k
+pub record Length (k w : ℕ) : Type 0 where
+  pub some : 0 < w
+  pub before : less w ≡ w - 1
+  pub most : w ≤ 2 ^ k
 
-reached : (k w : ℕ) → k ≤ 20 → less w < 2 ^ k → Length k w
+pub reached : (k w : ℕ) → k ≤ 20 → less w < 2 ^ k → Length k w
 reached k zero hk h = absurd (omega (arith, pow-mono hk))
 reached k (suc w) hk h = record { some = omega arith; before = omega arith; most = omega arith }
 
@@ -56,7 +56,7 @@ before-is (suc w) h = omega arith
 
 -- ---- a length and an offset that have no bit in common with the number before the length
 
-aligned : (k o w : ℕ) → 0 < w → w ≤ 2 ^ k → bitAnd w (w - 1) ≡ 0 → bitAnd o (w - 1) ≡ 0 → Dyadic k o w
+pub aligned : (k o w : ℕ) → 0 < w → w ≤ 2 ^ k → bitAnd w (w - 1) ≡ 0 → bitAnd o (w - 1) ≡ 0 → Dyadic k o w
 aligned k o w some most p q =
     let b = lone-bit w some p in
     let m = b .size in
@@ -178,22 +178,25 @@ module _ (k i : ℕ) (few : k ≤ 20) where
   sound-singles t (b ∷ bs) p r =
       sound-singles (seeSingle t b) bs (sound-single k i t b p (r .0)) (rw (next-single t b (r .0 .high)) (r .1))
 
+-- the ends stay below 2 ^ 32 as long as there is room for this many buckets
+pub end-next : (k i count start : ℕ) (b : Bucket) (n : ℕ) → k ≤ 20 → start + 1048576 * suc n < 2 ^ 32 → SoundBucket k i count start b
+    → ((b .offset + b .width) % 2 ^ 32 ≡ b .offset + b .width) × (b .offset + b .width + 1048576 * n < 2 ^ 32)
+end-next k i count start b n few room s =
+    let d = s .shape in
+    let most : b .width ≤ 2 ^ 20 = omega (arith, d .power, pow-mono {i = d .size} {j = 20} (omega (arith, d .deep))) in
+    (mod-eq-of-lt (omega (arith, s .at)), omega (arith, s .at))
+
 module _ (k i count : ℕ) (few : k ≤ 20) where
   abbrev see : Seen → Bucket → Seen
   see = seeBucket (leastOf count i)
 
-  -- the ends stay below 2 ^ 32 as long as there is room for this many buckets
   abbrev Room : Seen → List Bucket → Type 0
   Room t bs = t .end + 1048576 * length bs < 2 ^ 32
 
   next-bucket : (t : Seen) (b : Bucket) (bs : List Bucket) → Room t (b ∷ bs) → SoundBucket k i count (t .end) b
       → (see t b .end ≡ b .offset + b .width) × Room (see t b) bs
   unfolding seeBucket
-  next-bucket t b bs room s =
-      let d = s .shape in
-      let most : b .width ≤ 2 ^ 20 = omega (arith, d .power, pow-mono {i = d .size} {j = 20} (omega (arith, d .deep))) in
-      let e : (b .offset + b .width) % 2 ^ 32 ≡ b .offset + b .width = mod-eq-of-lt (omega (arith, s .at)) in
-      (e, rw e (omega (arith, s .at)))
+  next-bucket t b bs room s = let n = end-next k i count (t .end) b (length bs) few room s in (n .0, rw (n .0) (n .1))
 
   buckets-sound : (t : Seen) (bs : List Bucket) → Room t bs → Passed k i (seeAll see t bs) → seeAll see t bs .end ≡ 2 ^ k
       → Chained k i count (t .end) bs

@@ -2,7 +2,7 @@
 use shape::Shape;
 ghost use mathlib.Core.Path.{_≡_};
 ghost use mathlib.Core.Bool.{cond, _&&_};
-ghost use Prim.Native.Nat.{_+_, _*_, _^_, _<_, _≤_};
+ghost use Prim.Native.Nat.{_+_, _-_, _*_, _/_, _^_, _<_, _≤_};
 ghost use lib.Dec.{leb};
 ghost use lib.ListN.{length, getD, drop};
 ghost use Rattle.shape.specs.Layout.{levelWords};
@@ -10,8 +10,9 @@ ghost use Rattle.model.specs.Words.{slot, slots, decodeLevel};
 ghost use Rattle.model.specs.Block.{sumFrom};
 ghost use Rattle.model.specs.Sound.{implies, zeros, soundLevel};
 ghost use Rattle.laws.specs.Place.{place, EndsRise};
-ghost use Rattle.scan.specs.Slot.{content, front};
+ghost use Rattle.scan.specs.Slot.{content, front, fronts};
 ghost use Rattle.scan.specs.Pass.{unseen, below, spread, seeSingle, seeBucket, seeAll, leastOf, seenLevel, weightSeen, soundSeen};
+ghost use Rattle.scan.specs.Quick.{fresh, over, quickBucket, quickAll, mostOf, enough, Judged};
 
 // The words of one slot.
 struct Slot {
@@ -290,6 +291,192 @@ fn sound_seen(t: Seen, first: u32, k: u8, i: u8) -> bool
     both(first < top, both(t.faults == 0, both(t.reach < top, held)))
 }
 
+// What a quick pass over the buckets of a level from 1 on has collected. Its tests are fewer, and ask more than soundness does: where
+// they fail, the other pass decides.
+struct Quick {
+    // Where the next bucket is to start.
+    end: u32,
+    // Bits that must be 0.
+    faults: u32,
+    // The bits of numbers that must be below 2 ^ k.
+    reach: u32,
+    // The bits of what each weight is above the least one.
+    extra: u32,
+    // The sum of the weights, up to a multiple of 2 ^ 32.
+    sum: u32,
+}
+
+// Before the first bucket.
+fn begin(first: u32) -> Quick
+    ensures { λ r. ⌜ r ≡ fresh first ⌝ }
+{
+    Quick {
+        end: first,
+        faults: 0,
+        reach: 0,
+        extra: 0,
+        sum: 0,
+    }
+}
+
+// All bits if x is more than y, both taken as signed: four such comparisons are one operation of the machine, unsigned ones more.
+fn mask(x: u32, y: u32) -> u32
+    ensures { λ r. ⌜ r ≡ over x y ⌝ }
+{
+    if 2147483648 ^ y < 2147483648 ^ x {
+        4294967295
+    } else {
+        0
+    }
+}
+
+// A bucket whose weight is to be `least` or more and, where it is longer than 1, at most `most` above that.
+fn quick_bucket(t: Quick, b: Slot, least: u32, most: u32) -> Quick
+    ensures { λ r. ⌜ r ≡ quickBucket least most t (content b) ⌝ }
+{
+    let less = std::num::wrapping_sub_u32(b.width, 1);
+    let extra = std::num::wrapping_sub_u32(b.weight, least);
+    Quick {
+        end: std::num::wrapping_add_u32(b.offset, b.width),
+        faults: t.faults
+            | (t.end ^ b.offset)
+            | (b.width & less)
+            | (b.offset & less)
+            | (mask(extra, most) & less),
+        reach: t.reach | less,
+        extra: t.extra | extra,
+        sum: std::num::wrapping_add_u32(t.sum, b.weight),
+    }
+}
+
+// The slot whose words start at `at`.
+fn slot_from(rest: &[u32], at: usize) -> Slot
+    requires { ⌜ at + 3 ≤ length (now rest) ⌝ }
+    ensures { λ r. ⌜ content r ≡ front (drop at (now (rest .entry))) ⌝ }
+{
+    Slot {
+        offset: rest[at],
+        width: rest[at + 1],
+        weight: rest[at + 2],
+    }
+}
+
+// The four slots at the front of words: a loop over fours is compiled to read sixteen slots at once.
+fn quick_four(t: Quick, rest: &[u32], least: u32, most: u32) -> Quick
+    requires { ⌜ 12 ≤ length (now rest) ⌝ }
+    ensures { λ r. ⌜ r ≡ quickAll least most t (fronts (now (rest .entry))) ⌝ }
+{
+    let one = quick_bucket(t, first_slot(rest), least, most);
+    let two = quick_bucket(one, slot_from(rest, 3), least, most);
+    let three = quick_bucket(two, slot_from(rest, 6), least, most);
+    quick_bucket(three, slot_from(rest, 9), least, most)
+}
+
+// The slots in fours, as far as they go.
+fn quick_fours(level: &[u32], count: usize, least: u32, most: u32) -> Quick
+    requires { ⌜ (2 + 3 * count ≤ length (now level)) × (count ≤ 1024) ⌝ }
+    ensures { λ r. ⌜ quickAll least most r (slots (now (level .entry)) (count / 4 * 4) (count - count / 4 * 4))
+        ≡ quickAll least most (fresh (getD (now (level .entry)) 1 0)) (slots (now (level .entry)) 0 count) ⌝ }
+{
+    let mut t = begin(level[1]);
+    let mut rest = &level[2..];
+    let mut at: usize = 0;
+    while at + 4 <= count {
+        t = quick_four(t, rest, least, most);
+        rest = &rest[12..];
+        at += 4;
+    }
+    t
+}
+
+// The slots from `from` on.
+fn quick_rest(t: Quick, level: &[u32], from: usize, count: usize, least: u32, most: u32) -> Quick
+    requires { ⌜ (2 + 3 * count ≤ length (now level)) × (count ≤ 1024) ⌝ }
+    ensures { λ r. ⌜ r ≡ quickAll least most t (slots (now (level .entry)) from (count - from)) ⌝ }
+{
+    let mut seen = t;
+    let mut at = from;
+    while at < count {
+        seen = quick_bucket(seen, slot_at(level, at), least, most);
+        at += 1;
+    }
+    seen
+}
+
+fn quick_buckets(level: &[u32], count: usize, least: u32, most: u32) -> Quick
+    requires { ⌜ (2 + 3 * count ≤ length (now level)) × (count ≤ 1024) ⌝ }
+    ensures { λ r. ⌜ r ≡ quickAll least most (fresh (getD (now (level .entry)) 1 0)) (slots (now (level .entry)) 0 count) ⌝ }
+{
+    let t = quick_fours(level, count, least, most);
+    quick_rest(t, level, count / 4 * 4, count, least, most)
+}
+
+// What the weight of a bucket that is longer than 1 has at most above the least one.
+fn most(count: usize, i: u8) -> u32
+    requires { ⌜ i ≤ 30 ⌝ }
+    ensures { λ r. ⌜ r ≡ mostOf count i ⌝ }
+{
+    if 2 <= count {
+        power(i) - 1
+    } else {
+        2 * power(i) - 1
+    }
+}
+
+// Whether a quick pass tells that the buckets are sound and their weights' sum below 2 ^ 32.
+fn is_enough(t: Quick, first: u32, k: u8, least: u32) -> bool
+    requires { ⌜ k ≤ 31 ⌝ }
+    ensures { λ r. ⌜ r ≡ enough k least first t ⌝ }
+{
+    let top = power(k);
+    let small = both(t.extra < 2097152, least <= 1048576);
+    both(
+        first < top,
+        both(
+            t.faults == 0,
+            both(t.reach < top, both(t.end == top, small)),
+        ),
+    )
+}
+
+// The weight of a level's buckets, and whether they are sound.
+struct Verdict {
+    weight: u64,
+    sound: bool,
+}
+
+// By the pass that decides always.
+fn judge_seen(level: &[u32], count: usize, k: u8, i: u8) -> Verdict
+    requires { ⌜ (2 + 3 * count ≤ length (now level)) × (count ≤ 1024) × (k ≤ 20) × (i ≤ 24) ⌝ }
+    ensures { λ r. ⌜ Judged k i (getD (now (level .entry)) 1 0) (slots (now (level .entry)) 0 count) r ⌝ }
+{
+    let t = see(level, count, i);
+    let sound = sound_seen(t, level[1], k, i);
+    Verdict {
+        weight: weight(t),
+        sound: sound,
+    }
+}
+
+// By the quick pass, where that is enough.
+fn judge(level: &[u32], count: usize, k: u8, i: u8) -> Verdict
+    requires { ⌜ (2 + 3 * count ≤ length (now level)) × (count ≤ 1024) × (k ≤ 20) × (i ≤ 24) ⌝ }
+    ensures { λ r. ⌜ Judged k i (getD (now (level .entry)) 1 0) (slots (now (level .entry)) 0 count) r ⌝ }
+{
+    if i == 0 {
+        return judge_seen(level, count, k, i);
+    }
+    let low = least(count, i);
+    let t = quick_buckets(level, count, low, most(count, i));
+    if is_enough(t, level[1], k, low) {
+        return Verdict {
+            weight: long(t.sum),
+            sound: true,
+        };
+    }
+    judge_seen(level, count, k, i)
+}
+
 // Whether the words of level i are sound in a half of this total. The words may be any.
 pub fn sound_level(level: &[u32], s: Shape, i: u8, total: u64) -> bool
     requires { ⌜ (length (now level) ≡ levelWords s) × (s .n ≤ 1024) × (s .k ≤ 20) × (i ≤ 24) ⌝ }
@@ -302,11 +489,10 @@ pub fn sound_level(level: &[u32], s: Shape, i: u8, total: u64) -> bool
         return false;
     }
     let unused = is_zero(level, 2 + 3 * count);
-    let t = see(level, count, i);
-    let weight = weight(t);
+    let v = judge(level, count, s.k, i);
+    let weight = v.weight;
     let whole = implied(first == 0, weight == total);
     let full = implied(0 < first, count == n);
-    let parts = sound_seen(t, first, s.k, i);
-    let rest = both(whole, both(full, parts));
+    let rest = both(whole, both(full, v.sound));
     both(unused, both(weight <= total, rest))
 }

@@ -1,0 +1,58 @@
+-- Each step is one of the definition, on the slot that the fields show.
+use borrow.Author.Needs.{needs}
+use Rattle.scan.proofs.quick_four.Statement.{statement}
+use Rattle.scan.proofs.quick_four.Tie as tie
+
+first-slot-requires : tie.Need-first-slot-requires
+first-slot-requires c κs = search needs
+
+quick-bucket-requires : tie.Need-quick-bucket-requires
+quick-bucket-requires c κs = search needs
+
+slot-from-requires : tie.Need-slot-from-requires
+slot-from-requires c κs = search needs
+
+quick-bucket-requires-2 : tie.Need-quick-bucket-requires-2
+quick-bucket-requires-2 c κs = search needs
+
+slot-from-requires-2 : tie.Need-slot-from-requires-2
+slot-from-requires-2 c κs = search needs
+
+quick-bucket-requires-3 : tie.Need-quick-bucket-requires-3
+quick-bucket-requires-3 c κs = search needs
+
+slot-from-requires-3 : tie.Need-slot-from-requires-3
+slot-from-requires-3 c κs = search needs
+
+quick-bucket-requires-4 : tie.Need-quick-bucket-requires-4
+quick-bucket-requires-4 c κs = search needs
+
+returns : tie.Need-returns
+returns c =
+    let q = c .before .before in
+    let r = q .before .before in
+    let s = r .before .before in
+    rw (
+      c .quick-bucket4 .ensures,
+      c .before .slot-from3 .ensures,
+      q .quick-bucket3 .ensures,
+      q .before .slot-from2 .ensures,
+      r .quick-bucket2 .ensures,
+      r .before .slot-from .ensures,
+      s .quick-bucket .ensures,
+      s .before .first-slot .ensures,
+    )
+
+pub quick-four-spec : {M : Type 1} → statement M
+quick-four-spec =
+    tie.close
+    (tie.spec
+    first-slot-requires
+    quick-bucket-requires
+    slot-from-requires
+    quick-bucket-requires-2
+    slot-from-requires-2
+    quick-bucket-requires-3
+    slot-from-requires-3
+    quick-bucket-requires-4
+    returns)

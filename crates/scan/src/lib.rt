@@ -334,16 +334,16 @@ fn mask(x: u32, y: u32) -> u32
 fn quick_bucket(t: Quick, b: Slot, least: u32, most: u32) -> Quick
     ensures { λ r. ⌜ r ≡ quickBucket least most t (content b) ⌝ }
 {
-    let less = std::num::wrapping_sub_u32(b.width, 1);
+    let before = std::num::wrapping_sub_u32(b.width, 1);
     let extra = std::num::wrapping_sub_u32(b.weight, least);
     Quick {
         end: std::num::wrapping_add_u32(b.offset, b.width),
         faults: t.faults
             | (t.end ^ b.offset)
-            | (b.width & less)
-            | (b.offset & less)
-            | (mask(extra, most) & less),
-        reach: t.reach | less,
+            | (b.width & before)
+            | (b.offset & before)
+            | (mask(extra, most) & before),
+        reach: t.reach | before,
         extra: t.extra | extra,
         sum: std::num::wrapping_add_u32(t.sum, b.weight),
     }
@@ -395,10 +395,10 @@ fn quick_rest(t: Quick, level: &[u32], from: usize, count: usize, least: u32, mo
     ensures { λ r. ⌜ r ≡ quickAll least most t (slots (now (level .entry)) from (count - from)) ⌝ }
 {
     let mut seen = t;
-    let mut at = from;
-    while at < count {
-        seen = quick_bucket(seen, slot_at(level, at), least, most);
-        at += 1;
+    let mut next = from;
+    while next < count {
+        seen = quick_bucket(seen, slot_at(level, next), least, most);
+        next += 1;
     }
     seen
 }

@@ -1,4 +1,4 @@
--- Invariant: what is seen and then the slots from `at` on come to what all slots from `from` on do.
+-- Invariant: what is seen and then the slots from `next` on come to what all slots from `from` on do.
 use mathlib.Core.Path.{_≡_, refl}
 use Prim.Native.Nat.{_-_}
 use native.Mathlib.Omega.{arith}
@@ -11,11 +11,11 @@ use Rattle.scan.proofs.quick_rest.Statement.{statement}
 use Rattle.scan.proofs.quick_rest.Tie as tie
 
 abbrev Inv-loop : tie.InvT-loop
-Inv-loop level from count least most seen₀ at₀ seen at =
-    quickAll least most seen (slots level at (count - at)) ≡ quickAll least most seen₀ (slots level from (count - from))
+Inv-loop level from count least most seen₀ next₀ seen next =
+    quickAll least most seen (slots level next (count - next)) ≡ quickAll least most seen₀ (slots level from (count - from))
 
 abbrev μ-loop : tie.MeasureT-loop
-μ-loop level from count least most seen₀ at₀ seen at = count - at
+μ-loop level from count least most seen₀ next₀ seen next = count - next
 
 loop-holds : tie.Need-loop-holds Inv-loop μ-loop
 loop-holds c = refl
@@ -26,8 +26,8 @@ slot-at-requires c κs = search needs
 quick-bucket-requires : tie.Need-quick-bucket-requires Inv-loop μ-loop
 quick-bucket-requires c κs = search needs
 
-add-at : tie.Need-add-at Inv-loop μ-loop
-add-at c = search needs
+add-next : tie.Need-add-next Inv-loop μ-loop
+add-next c = search needs
 
 loop-less : tie.Need-loop-less Inv-loop μ-loop
 loop-less c = search needs
@@ -36,14 +36,14 @@ loop-again : tie.Need-loop-again Inv-loop μ-loop
 loop-again c =
     let l = c .before .before .before in
     let a = l .before .before .args in
-    let read = slots-read (a .level .now) (l .loop .at) (a .count) (c .before .slot-at .result) (c .before .slot-at .ensures) (c .before .before .loop-test .taken) in
+    let read = slots-read (a .level .now) (l .loop .next) (a .count) (c .before .slot-at .result) (c .before .slot-at .ensures) (c .before .before .loop-test .taken) in
     rw (c .quick-bucket .ensures) (rw read at (l .loop .inv))
 
 returns : tie.Need-returns Inv-loop μ-loop
 returns c =
     let l = c .before in
     let a = l .before .before .args in
-    rw (slots-none (a .level .now) (l .loop .at) (a .count) (c .loop-test .left)) at (l .loop .inv)
+    rw (slots-none (a .level .now) (l .loop .next) (a .count) (c .loop-test .left)) at (l .loop .inv)
 
 pub quick-rest-spec : {M : Type 1} → statement M
 quick-rest-spec =
@@ -54,7 +54,7 @@ quick-rest-spec =
     loop-holds
     slot-at-requires
     quick-bucket-requires
-    add-at
+    add-next
     loop-less
     loop-again
     returns)

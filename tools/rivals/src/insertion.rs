@@ -24,9 +24,21 @@ pub fn pour(level: &mut [u32], index: u32, offset: u32, volume: u32) {
     head[1] = first;
 }
 
+/// How many slots have an offset below the bound. Most stamps are recent, so it is looked for from
+/// the upper end, in steps that double.
+fn below(slots: &[Slot], bound: u32) -> usize {
+    let (mut high, mut step) = (slots.len(), 1);
+    while step <= high && slots[high - step][0] >= bound {
+        high -= step;
+        step *= 2;
+    }
+    let low = high.saturating_sub(step);
+    low + slots[low..high].partition_point(|slot| slot[0] < bound)
+}
+
 /// Level 0: a bucket for every tick.
 fn at_tick(slots: &mut [Slot], count: usize, first: u32, offset: u32, volume: u32) -> (usize, u32) {
-    let at = slots[..count].partition_point(|slot| slot[0] < offset);
+    let at = below(&slots[..count], offset);
     if at < count && slots[at][0] == offset {
         slots[at][2] += volume;
         return (count, first);
@@ -56,7 +68,7 @@ fn in_span(
     offset: u32,
     volume: u32,
 ) -> (usize, u32) {
-    let at = slots[..count].partition_point(|slot| slot[0] <= offset) - 1;
+    let at = below(&slots[..count], offset + 1) - 1;
     let [_, length, weight] = slots[at];
     if length > 1 && volume >= (2 << index) - weight {
         return split(slots, count, first, index, offset, volume, at);

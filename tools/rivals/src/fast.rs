@@ -53,17 +53,23 @@ fn exact(buckets: &[Slot], bits: u32, wrapped: u32) -> u64 {
 
 /// Level 0: a bucket for every tick. `heaviest` becomes about the largest weight.
 fn ticks(shape: Shape, level: Level, buckets: &[Slot], heaviest: &mut u32) -> Option<u64> {
-    let (mut within, mut lengths, mut weights, mut sum) = (level.first, 0, 0, 0u32);
+    let (mut gaps, mut lengths, mut weights, mut sum) = (0, 0, 0, 0u32);
     let mut lowest = level.first;
-    for &[offset, length, weight] in buckets {
-        // Both are below 2^k, unless the offset is too large or too small.
-        within |= offset | offset.wrapping_sub(lowest);
+    let mut see = |&[offset, length, weight]: &Slot| {
+        // Below 2^k, unless the offset is too small; 1,024 such gaps do not wrap.
+        gaps |= offset.wrapping_sub(lowest);
         lowest = offset.wrapping_add(1);
         lengths |= length ^ 1;
         // At least 2^31 where the weight is 0.
         weights |= weight.wrapping_sub(1);
         sum = sum.wrapping_add(weight);
-    }
+    };
+    let (groups, rest) = buckets.as_chunks::<4>();
+    groups
+        .iter()
+        .for_each(|group| group.iter().for_each(&mut see));
+    rest.iter().for_each(see);
+    let within = level.first | gaps | lowest.saturating_sub(1);
     *heaviest = weights;
     let sound = within < 1 << shape.k() && lengths == 0 && weights < 1 << Shape::M_MAX;
     sound.then(|| exact(buckets, weights, sum))

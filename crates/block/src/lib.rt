@@ -91,7 +91,7 @@ fn check_half(block: &[u32], s: Shape, parity: u8) -> bool
     }
     let mut level: u8 = 0;
     while level <= s.last {
-        if !scan::sound_level(level_at(block, s, parity, level), s, level, total) {
+        if !sound::sound_level(level_at(block, s, parity, level), s, level, total) {
             return false;
         }
         level += 1;

@@ -1,6 +1,8 @@
 // Writing one level of a histogram, on its part of the words.
 use scan::find;
 use shape::Shape;
+use words::power;
+use words::wide;
 ghost use mathlib.Core.Bool.{cond};
 ghost use mathlib.Core.List.{[], _∷_};
 ghost use mathlib.Core.Path.{_≡_};
@@ -15,20 +17,6 @@ ghost use Rattle.laws.specs.Proper.{Open};
 ghost use Rattle.insert.specs.Steps.{Takes, Becomes};
 ghost use Rattle.insert.specs.Ready.{Ready, Whole};
 ghost use Rattle.insert.specs.Entry.{At};
-
-// A word as an index.
-fn wide(x: u32) -> usize
-    ensures { λ r. ⌜ r ≡ x ⌝ }
-{
-    x as usize
-}
-
-fn power(i: u8) -> u32
-    requires { ⌜ i ≤ 31 ⌝ }
-    ensures { λ r. ⌜ r ≡ 2 ^ i ⌝ }
-{
-    1 << i
-}
 
 // Writes m words from `from` on again one slot above.
 fn raise_words(level: &mut [u32], from: usize, m: usize)

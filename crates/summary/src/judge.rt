@@ -58,7 +58,7 @@ fn judge_query_in(book: &[u32], s: Shape, clock: u32, grade: u32, window: u32) -
     ensures { λ r. ⌜ Judges (now (book .entry)) (Call.Query grade window) r ⌝ }
 {
     let grades = s.g as u32;
-    let widest = scan::power(s.k);
+    let widest = words::power(s.k);
     if grades <= grade {
         return Opened::Refused(Refusal::Grade);
     }

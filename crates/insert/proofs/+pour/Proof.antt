@@ -12,7 +12,7 @@ use Rattle.insert.proofs.pour.Reads as pour
 use Rattle.insert.proofs.pour.Kinds as pour-kinds
 use Rattle.insert.proofs.+pour.Lts-pour as pour-lts
 use Rattle.insert.proofs.gain.Reads as gain-reads
-use Rattle.insert.proofs.power.Reads as power-reads
+use Rattle.words.proofs.power.Reads as power-reads
 use Rattle.insert.proofs.split_at.Reads as split-at-reads
 use Rattle.insert.proofs.stays_whole.Reads as stays-whole-reads
 use Rattle.insert.proofs.+pour.{statement}

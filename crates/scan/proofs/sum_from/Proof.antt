@@ -6,7 +6,7 @@ use borrow.Author.Needs.{needs}
 use Rattle.model.specs.Block.{sumFrom}
 use Rattle.model.specs.Words.{slots, decodeLevel}
 use Rattle.laws.specs.LevelWords.{slots-none, slots-all}
-use Rattle.scan.specs.Slot.{slots-read}
+use Rattle.words.specs.Slot.{slots-read}
 use Rattle.scan.proofs.sum_from.Statement.{statement}
 use Rattle.scan.proofs.sum_from.Tie as tie
 

@@ -1,0 +1,60 @@
+-- The code computes the definition field by field; a weight's upper half is below 2 ^ 16.
+use Prim.Native.Nat.{_^_, _<_}
+use native.Mathlib.Omega.{arith}
+use borrow.Author.Needs.{needs}
+use Rattle.pass.specs.Pass.{seeBucket}
+use Rattle.pass.specs.PassLaws.{less-is}
+use Rattle.pass.proofs.see_bucket.Statement.{statement}
+use Rattle.pass.proofs.see_bucket.Tie as tie
+
+wrapping-sub-u32-requires : tie.Need-wrapping-sub-u32-requires
+wrapping-sub-u32-requires c κs = search needs
+
+wrapping-add-u32-requires : tie.Need-wrapping-add-u32-requires
+wrapping-add-u32-requires c κs = search needs
+
+shared-requires : tie.Need-shared-requires
+shared-requires c κs = search needs
+
+under-requires : tie.Need-under-requires
+under-requires c κs = search needs
+
+add-t16 : tie.Need-add-t16
+add-t16 c = search needs
+
+wrapping-add-u32-requires-2 : tie.Need-wrapping-add-u32-requires-2
+wrapping-add-u32-requires-2 c κs = search needs
+
+add-t19 : tie.Need-add-t19
+add-t19 c = omega (arith, c .before .before .before .before .before .before .before .before .before .before .before .before .before .before .before .pre .1)
+
+returns : tie.Need-returns
+unfolding seeBucket
+returns c =
+    let u = c .before .before .before .before in
+    let w = u .before .before .before .before .before .before .before .before .before in
+    let d = w .before .wrapping-sub-u32 in
+    let narrow : d .result < 2 ^ 32 = omega (arith, d .ok) in (
+      rw (
+        c .before .before .wrapping-add-u322 .ensures,
+        u .under .ensures .0,
+        u .before .before .shared .ensures,
+        w .wrapping-add-u32 .ensures,
+        less-is (d .result) _ narrow (d .ensures),
+      ),
+      omega (arith, u .under .ensures .1),
+      omega (arith, c .struct-known10 .given),
+    )
+
+pub see-bucket-spec : {M : Type 1} → statement M
+see-bucket-spec =
+    tie.close
+    (tie.spec
+    wrapping-sub-u32-requires
+    wrapping-add-u32-requires
+    shared-requires
+    under-requires
+    add-t16
+    wrapping-add-u32-requires-2
+    add-t19
+    returns)

@@ -1,0 +1,110 @@
+-- Invariant: what is seen and then the slots from `at` on come to what all slots do; `rest` starts at slot `at`; two sums stay small.
+use mathlib.Core.Path.{_≡_, refl, ap, _∙_}
+use Prim.Native.Nat.{_+_, _-_, _*_, _≤_, _<_}
+use native.Mathlib.Omega.{arith}
+use lib.ListN.{length, getD, drop, length-drop}
+use borrow.Author.Needs.{needs}
+use Rattle.model.specs.Words.{slots}
+use Rattle.laws.specs.LevelWords.{slots-none, slots-all}
+use Rattle.pass.specs.Pass.{unseen, seeBucket, seeAll}
+use Rattle.words.specs.Slot.{front, front-slot, part-all, front-moved, slots-read}
+use Rattle.pass.proofs.see_buckets.Statement.{statement}
+use Rattle.pass.proofs.see_buckets.Tie as tie
+
+abbrev Inv-loop : tie.InvT-loop
+Inv-loop level count least t₀ rest₀ at₀ t rest at =
+    (at ≤ count) × (t .short ≤ at) × (t .high ≤ 65535 * at) × (rest ≡ drop (2 + 3 * at) level)
+    × (seeAll (seeBucket least) t (slots level at (count - at)) ≡ seeAll (seeBucket least) (unseen (getD level 1 0)) (slots level 0 count))
+
+abbrev μ-loop : tie.MeasureT-loop
+μ-loop level count least t₀ rest₀ at₀ t rest at = count - at
+
+shared-slice-read-start : tie.Need-shared-slice-read-start Inv-loop μ-loop
+shared-slice-read-start c = search needs
+
+start-requires : tie.Need-start-requires Inv-loop μ-loop
+start-requires c κs = search needs
+
+sub-rest : tie.Need-sub-rest Inv-loop μ-loop
+sub-rest c = search needs
+
+part-rest-start : tie.Need-part-rest-start Inv-loop μ-loop
+part-rest-start c = search needs
+
+part-rest-end : tie.Need-part-rest-end Inv-loop μ-loop
+part-rest-end c = search needs
+
+loop-holds : tie.Need-loop-holds Inv-loop μ-loop
+loop-holds c = let a = c .before .before .before .before .args in
+    rw (c .before .start .ensures, slots-all (a .level .now) (a .count)) (omega arith, omega arith, omega arith, part-all (a .level .now) 2, refl)
+
+-- a slot is left at the front
+left : (c : tie.At-loop Inv-loop μ-loop) → c .loop .at < c .before .before .before .before .before .args .count → 3 ≤ length (c .loop .rest .now)
+left c h =
+    let ws = c .before .before .before .before .before .args .level .now in
+    rw (c .loop .inv .3, length-drop (2 + 3 * c .loop .at) ws) (omega arith)
+
+slot-from-requires : tie.Need-slot-from-requires Inv-loop μ-loop
+slot-from-requires c κs = left (c .before) (omega arith)
+
+see-bucket-requires : tie.Need-see-bucket-requires Inv-loop μ-loop
+see-bucket-requires c κs = search needs
+
+sub-rest-2 : tie.Need-sub-rest-2 Inv-loop μ-loop
+sub-rest-2 c = left (c .before .before .before) (omega arith)
+
+part-rest-start-2 : tie.Need-part-rest-start-2 Inv-loop μ-loop
+part-rest-start-2 c = left (c .before .before .before) (omega arith)
+
+part-rest-end-2 : tie.Need-part-rest-end-2 Inv-loop μ-loop
+part-rest-end-2 c = search needs
+
+add-at : tie.Need-add-at Inv-loop μ-loop
+add-at c = search needs
+
+loop-less : tie.Need-loop-less Inv-loop μ-loop
+loop-less c = search needs
+
+loop-again : tie.Need-loop-again Inv-loop μ-loop
+loop-again c =
+    let e = c .before .see-bucket .ensures in
+    let r = c .before .before in
+    let l = r .before .before in
+    let a = l .before .before .before .before .before .args in
+    let ws = a .level .now in
+    let at-front = r .slot-from .ensures ∙ ap front (l .loop .inv .3) ∙ front-slot ws (l .loop .at) in
+    let read = slots-read ws (l .loop .at) (a .count) (r .slot-from .result) at-front (omega arith) in (
+      omega arith,
+      omega (arith, e .1),
+      omega (arith, e .2),
+      front-moved (l .loop .rest .now) ws (l .loop .at) (l .loop .inv .3),
+      rw (e .0) (rw read at (l .loop .inv .4)),
+    )
+
+returns : tie.Need-returns Inv-loop μ-loop
+returns c =
+    let l = c .before in
+    let a = l .before .before .before .before .before .args in
+    rw (slots-none (a .level .now) (l .loop .at) (a .count) (omega arith)) at (l .loop .inv .4)
+
+pub see-buckets-spec : {M : Type 1} → statement M
+see-buckets-spec =
+    tie.close
+    (tie.spec
+    Inv-loop
+    μ-loop
+    shared-slice-read-start
+    start-requires
+    sub-rest
+    part-rest-start
+    part-rest-end
+    loop-holds
+    slot-from-requires
+    see-bucket-requires
+    sub-rest-2
+    part-rest-start-2
+    part-rest-end-2
+    add-at
+    loop-less
+    loop-again
+    returns)

@@ -1,0 +1,183 @@
+// The pass over the buckets of a level that decides whether they are sound.
+use words::Slot;
+use words::both;
+use words::implied;
+use words::long;
+use words::power;
+use words::slot_from;
+ghost use mathlib.Core.Path.{_≡_};
+ghost use Prim.Native.Nat.{_+_, _*_, _≤_};
+ghost use lib.ListN.{length, getD};
+ghost use Rattle.model.specs.Words.{slots};
+ghost use Rattle.words.specs.Slot.{content};
+ghost use Rattle.pass.specs.Pass.{unseen, below, spread, seeSingle, seeBucket, seeAll, leastOf, seenLevel, weightSeen, soundSeen, Judged};
+
+// What a pass over the buckets of a level has collected. No fault ends the pass: it is to run without a branch, four slots at a time,
+// so all is in words of 32 bits, and is tested once a level.
+struct Seen {
+    // Where the next bucket is to start, or the least offset that it may have.
+    end: u32,
+    // Bits that must be 0.
+    faults: u32,
+    // The bits of numbers that must be below 2 ^ k.
+    reach: u32,
+    // The bits of weights that must be below 2 ^ (i + 1).
+    heavy: u32,
+    // How many numbers are less than they must be.
+    short: u32,
+    // The sum of the weights, up to a multiple of 2 ^ 32.
+    low: u32,
+    // The sum of the weights' upper halves.
+    high: u32,
+}
+
+// Before the first bucket.
+fn start(first: u32) -> Seen
+    ensures { λ r. ⌜ r ≡ unseen first ⌝ }
+{
+    Seen {
+        end: first,
+        faults: 0,
+        reach: 0,
+        heavy: 0,
+        short: 0,
+        low: 0,
+        high: 0,
+    }
+}
+
+// 1 if x is less than y: a number, so that it is computed without a branch.
+fn under(x: u32, y: u32) -> u32
+    ensures { λ r. ⌜ (r ≡ below x y) × (r ≤ 1) ⌝ }
+{
+    if x < y { 1 } else { 0 }
+}
+
+// The weight, where the bucket is longer than 1.
+fn shared(b: Slot) -> u32
+    ensures { λ r. ⌜ r ≡ spread (content b) ⌝ }
+{
+    if b.width == 1 { 0 } else { b.weight }
+}
+
+// A bucket of level 0.
+fn see_single(t: Seen, b: Slot) -> Seen
+    requires { ⌜ (t .short ≤ 2048) × (t .high ≤ 67108864) ⌝ }
+    ensures { λ r. ⌜ (r ≡ seeSingle t (content b)) × (r .short ≤ t .short + 2) × (r .high ≤ t .high + 65535) ⌝ }
+{
+    Seen {
+        end: std::num::wrapping_add_u32(b.offset, 1),
+        faults: t.faults | (b.width ^ 1),
+        reach: t.reach | b.offset,
+        heavy: t.heavy,
+        short: t.short + (under(b.offset, t.end) + under(b.weight, 1)),
+        low: std::num::wrapping_add_u32(t.low, b.weight),
+        high: t.high + b.weight / 65536,
+    }
+}
+
+// A bucket of a level from 1 on. A power of two has no bit in common with the number before it, nor has a multiple of it. An end that
+// wraps needs more buckets than a level has, where F and each length are within 2 ^ k.
+fn see_bucket(t: Seen, b: Slot, least: u32) -> Seen
+    requires { ⌜ (t .short ≤ 2048) × (t .high ≤ 67108864) ⌝ }
+    ensures { λ r. ⌜ (r ≡ seeBucket least t (content b)) × (r .short ≤ t .short + 1) × (r .high ≤ t .high + 65535) ⌝ }
+{
+    let less = std::num::wrapping_sub_u32(b.width, 1);
+    Seen {
+        end: std::num::wrapping_add_u32(b.offset, b.width),
+        faults: t.faults | (t.end ^ b.offset) | (b.width & less) | (b.offset & less),
+        reach: t.reach | less,
+        heavy: t.heavy | shared(b),
+        short: t.short + under(b.weight, least),
+        low: std::num::wrapping_add_u32(t.low, b.weight),
+        high: t.high + b.weight / 65536,
+    }
+}
+
+fn see_singles(level: &[u32], count: usize) -> Seen
+    requires { ⌜ (2 + 3 * count ≤ length (now level)) × (count ≤ 1024) ⌝ }
+    ensures { λ r. ⌜ r ≡ seeAll seeSingle (unseen (getD (now (level .entry)) 1 0)) (slots (now (level .entry)) 0 count) ⌝ }
+{
+    let mut t = start(level[1]);
+    let mut rest = &level[2..];
+    let mut j: usize = 0;
+    while j < count {
+        t = see_single(t, slot_from(rest, 0));
+        rest = &rest[3..];
+        j += 1;
+    }
+    t
+}
+
+fn see_buckets(level: &[u32], count: usize, least: u32) -> Seen
+    requires { ⌜ (2 + 3 * count ≤ length (now level)) × (count ≤ 1024) ⌝ }
+    ensures { λ r. ⌜ r ≡ seeAll (seeBucket least) (unseen (getD (now (level .entry)) 1 0)) (slots (now (level .entry)) 0 count) ⌝ }
+{
+    let mut t = start(level[1]);
+    let mut rest = &level[2..];
+    let mut at: usize = 0;
+    while at < count {
+        t = see_bucket(t, slot_from(rest, 0), least);
+        rest = &rest[3..];
+        at += 1;
+    }
+    t
+}
+
+// The least weight of a bucket of level i from 1 on.
+pub fn least(count: usize, i: u8) -> u32
+    requires { ⌜ i ≤ 31 ⌝ }
+    ensures { λ r. ⌜ r ≡ leastOf count i ⌝ }
+{
+    if 2 <= count { power(i) } else { 0 }
+}
+
+// One pass over the buckets of level i.
+fn see(level: &[u32], count: usize, i: u8) -> Seen
+    requires { ⌜ (2 + 3 * count ≤ length (now level)) × (count ≤ 1024) × (i ≤ 31) ⌝ }
+    ensures { λ r. ⌜ r ≡ seenLevel i (getD (now (level .entry)) 1 0) (slots (now (level .entry)) 0 count) ⌝ }
+{
+    if i == 0 {
+        return see_singles(level, count);
+    }
+    see_buckets(level, count, least(count, i))
+}
+
+// The sum of the weights. What the lower halves add is below 2 ^ 32, so its remainder is all of it.
+fn weight(t: Seen) -> u64
+    ensures { λ r. ⌜ r ≡ weightSeen t ⌝ }
+{
+    let high = 65536 * long(t.high);
+    high + (long(t.low) + (4294967296 - high % 4294967296)) % 4294967296
+}
+
+// Whether the buckets of level i are sound, of which a pass collected t.
+fn sound_seen(t: Seen, first: u32, k: u8, i: u8) -> bool
+    requires { ⌜ (k ≤ 31) × (i ≤ 30) ⌝ }
+    ensures { λ r. ⌜ r ≡ soundSeen k i first t ⌝ }
+{
+    let top = power(k);
+    let high = 2 * power(i);
+    let ended = implied(0 < i, t.end == top);
+    let held = both(t.heavy < high, both(t.short == 0, ended));
+    both(first < top, both(t.faults == 0, both(t.reach < top, held)))
+}
+
+// The weight of a level's buckets, and whether they are sound.
+pub struct Verdict {
+    pub weight: u64,
+    pub sound: bool,
+}
+
+// By the pass that decides always.
+pub fn judge_seen(level: &[u32], count: usize, k: u8, i: u8) -> Verdict
+    requires { ⌜ (2 + 3 * count ≤ length (now level)) × (count ≤ 1024) × (k ≤ 20) × (i ≤ 24) ⌝ }
+    ensures { λ r. ⌜ Judged k i (getD (now (level .entry)) 1 0) (slots (now (level .entry)) 0 count) r ⌝ }
+{
+    let t = see(level, count, i);
+    let sound = sound_seen(t, level[1], k, i);
+    Verdict {
+        weight: weight(t),
+        sound: sound,
+    }
+}

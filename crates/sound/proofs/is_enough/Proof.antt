@@ -1,0 +1,49 @@
+-- The code tests the factors of the definition, each once.
+use borrow.Author.Needs.{needs}
+use Rattle.sound.specs.Quick.{enough}
+use Rattle.sound.proofs.is_enough.Statement.{statement}
+use Rattle.sound.proofs.is_enough.Tie as tie
+
+power-requires : tie.Need-power-requires
+power-requires c κs = search needs
+
+both-requires : tie.Need-both-requires
+both-requires c κs = search needs
+
+both-requires-2 : tie.Need-both-requires-2
+both-requires-2 c κs = search needs
+
+both-requires-3 : tie.Need-both-requires-3
+both-requires-3 c κs = search needs
+
+both-requires-4 : tie.Need-both-requires-4
+both-requires-4 c κs = search needs
+
+both-requires-5 : tie.Need-both-requires-5
+both-requires-5 c κs = search needs
+
+returns : tie.Need-returns
+unfolding enough
+returns c =
+    let b = c .before .before .before in
+    let s = b .before .before .before .before in
+    rw (
+      c .both5 .ensures,
+      c .before .both4 .ensures,
+      c .before .before .both3 .ensures,
+      b .both2 .ensures,
+      s .both .ensures,
+      s .before .before .power .ensures,
+    )
+
+pub is-enough-spec : {M : Type 1} → statement M
+is-enough-spec =
+    tie.close
+    (tie.spec
+    power-requires
+    both-requires
+    both-requires-2
+    both-requires-3
+    both-requires-4
+    both-requires-5
+    returns)

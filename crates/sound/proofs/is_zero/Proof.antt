@@ -1,0 +1,60 @@
+-- Invariant: the bits so far are none and the words from `at` on are zero just where those from `from` on are.
+use mathlib.Core.Bool.{_&&_, and-assoc}
+use mathlib.Core.Path.{_≡_, refl, sym, _∙_}
+use Prim.Native.Nat.{_+_, _-_}
+use lib.Dec.{eqb}
+use lib.ListN.{length, getD, drop, drop-of-length-le}
+use borrow.Author.Needs.{needs}
+use Rattle.model.specs.Sound.{zeros}
+use Rattle.words.specs.Bits.{or-tested}
+use Rattle.sound.specs.Zeros.{zeros-step, and-all}
+use Rattle.sound.proofs.is_zero.Statement.{statement}
+use Rattle.sound.proofs.is_zero.Tie as tie
+
+abbrev Inv-loop : tie.InvT-loop
+Inv-loop level from all₀ at₀ all at = (eqb all 0 && zeros (drop at level)) ≡ zeros (drop from level)
+
+abbrev μ-loop : tie.MeasureT-loop
+μ-loop level from all₀ at₀ all at = length level - at
+
+loop-holds : tie.Need-loop-holds Inv-loop μ-loop
+loop-holds c = refl
+
+mul-all : tie.Need-mul-all Inv-loop μ-loop
+mul-all c = search needs
+
+shared-slice-read-all : tie.Need-shared-slice-read-all Inv-loop μ-loop
+shared-slice-read-all c = search needs
+
+add-at : tie.Need-add-at Inv-loop μ-loop
+add-at c = search needs
+
+loop-less : tie.Need-loop-less Inv-loop μ-loop
+loop-less c = search needs
+
+loop-again : tie.Need-loop-again Inv-loop μ-loop
+loop-again c =
+    let l = c .before .before in
+    let ws = l .before .args .level .now in
+    let word = getD ws (l .loop .at) 0 in
+    let rest = zeros (drop (l .loop .at + 1) ws) in
+    let step = zeros-step ws (l .loop .at) (c .before .loop-test .taken) in
+    rw (or-tested (l .loop .all) word, and-assoc (eqb (l .loop .all) 0) (eqb word 0) rest) (rw step at (l .loop .inv))
+
+returns : tie.Need-returns Inv-loop μ-loop
+returns c = let l = c .before in
+    sym (and-all (eqb (l .loop .all) 0)) ∙ rw (drop-of-length-le (l .before .args .level .now) (c .loop-test .left)) at (l .loop .inv)
+
+pub is-zero-spec : {M : Type 1} → statement M
+is-zero-spec =
+    tie.close
+    (tie.spec
+    Inv-loop
+    μ-loop
+    loop-holds
+    mul-all
+    shared-slice-read-all
+    add-at
+    loop-less
+    loop-again
+    returns)

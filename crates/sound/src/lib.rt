@@ -1,0 +1,227 @@
+// Whether the words of one level are sound.
+use pass::Verdict;
+use pass::judge_seen;
+use pass::least;
+use shape::Shape;
+use words::Slot;
+use words::both;
+use words::implied;
+use words::long;
+use words::power;
+use words::slot_at;
+use words::slot_from;
+use words::wide;
+ghost use mathlib.Core.Path.{_≡_};
+ghost use Prim.Native.Nat.{_+_, _-_, _*_, _/_, _<_, _≤_};
+ghost use lib.ListN.{length, getD, drop};
+ghost use Rattle.shape.specs.Layout.{levelWords};
+ghost use Rattle.model.specs.Words.{slots};
+ghost use Rattle.model.specs.Sound.{zeros, soundLevel};
+ghost use Rattle.words.specs.Slot.{content, fronts};
+ghost use Rattle.pass.specs.Pass.{Judged};
+ghost use Rattle.sound.specs.Quick.{fresh, over, quickBucket, quickAll, marked, quickRun, quickWhole, mostOf, enough};
+
+// Whether all words from `from` on are zero: their bits are collected, and tested once.
+fn is_zero(level: &[u32], from: usize) -> bool
+    ensures { λ r. ⌜ r ≡ zeros (drop from (now (level .entry))) ⌝ }
+{
+    let mut all: u32 = 0;
+    let mut at = from;
+    while at < level.len() {
+        all = all | level[at];
+        at += 1;
+    }
+    all == 0
+}
+
+// What a quick pass over the buckets of a level from 1 on has collected. Its tests are fewer, and ask more than soundness does: where
+// they fail, the other pass decides.
+struct Quick {
+    // Where the next bucket is to start.
+    end: u32,
+    // Bits that must be 0.
+    faults: u32,
+    // The bits of numbers that must be below 2 ^ (k + 1): ends, and the number before the first length.
+    reach: u32,
+    // The bits of what each weight is above the least one.
+    extra: u32,
+    // The sum of the weights, up to a multiple of 2 ^ 32.
+    sum: u32,
+}
+
+// Before the first bucket, which has this length.
+fn begin(first: u32, width: u32) -> Quick
+    ensures { λ r. ⌜ r ≡ fresh first width ⌝ }
+{
+    Quick {
+        end: first,
+        faults: 0,
+        reach: std::num::wrapping_sub_u32(width, 1),
+        extra: 0,
+        sum: 0,
+    }
+}
+
+// All bits if x is more than y, both taken as signed: four such comparisons are one operation of the machine, unsigned ones more.
+fn mask(x: u32, y: u32) -> u32
+    ensures { λ r. ⌜ r ≡ over x y ⌝ }
+{
+    if 2147483648 ^ y < 2147483648 ^ x {
+        4294967295
+    } else {
+        0
+    }
+}
+
+// A bucket whose weight is to be `least` or more and, where it is longer than 1, at most `most` above that.
+fn quick_bucket(t: Quick, b: Slot, least: u32, most: u32) -> Quick
+    ensures { λ r. ⌜ r ≡ quickBucket least most t (content b) ⌝ }
+{
+    let before = std::num::wrapping_sub_u32(b.width, 1);
+    let extra = std::num::wrapping_sub_u32(b.weight, least);
+    Quick {
+        end: std::num::wrapping_add_u32(b.offset, b.width),
+        faults: t.faults
+            | (t.end ^ b.offset)
+            | (b.width & before)
+            | (b.offset & before)
+            | (mask(extra, most) & before),
+        reach: t.reach,
+        extra: t.extra | extra,
+        sum: std::num::wrapping_add_u32(t.sum, b.weight),
+    }
+}
+
+// An offset is a multiple of its length, so that an end past 0 is at most twice as large as the one before it: it is enough to look at
+// every fourth to see that none wraps.
+fn mark(t: Quick) -> Quick
+    ensures { λ r. ⌜ r ≡ marked t ⌝ }
+{
+    Quick {
+        end: t.end,
+        faults: t.faults,
+        reach: t.reach | t.end,
+        extra: t.extra,
+        sum: t.sum,
+    }
+}
+
+// The four slots at the front of words: a loop over fours is compiled to read sixteen slots at once.
+fn quick_four(t: Quick, rest: &[u32], least: u32, most: u32) -> Quick
+    requires { ⌜ 12 ≤ length (now rest) ⌝ }
+    ensures { λ r. ⌜ r ≡ quickRun least most 3 t (fronts (now (rest .entry))) ⌝ }
+{
+    let one = quick_bucket(t, slot_from(rest, 0), least, most);
+    let two = quick_bucket(one, slot_from(rest, 3), least, most);
+    let three = quick_bucket(two, slot_from(rest, 6), least, most);
+    mark(quick_bucket(three, slot_from(rest, 9), least, most))
+}
+
+// The slots in fours, as far as they go.
+fn quick_fours(level: &[u32], count: usize, least: u32, most: u32) -> Quick
+    requires { ⌜ (2 + 3 * count ≤ length (now level)) × (count ≤ 1024) × (0 < count) ⌝ }
+    ensures { λ r. ⌜ quickRun least most 3 r (slots (now (level .entry)) (count / 4 * 4) (count - count / 4 * 4))
+        ≡ quickWhole least most (getD (now (level .entry)) 1 0) (slots (now (level .entry)) 0 count) ⌝ }
+{
+    let mut t = begin(level[1], level[3]);
+    let mut rest = &level[2..];
+    let mut at: usize = 0;
+    while at + 4 <= count {
+        t = quick_four(t, rest, least, most);
+        rest = &rest[12..];
+        at += 4;
+    }
+    t
+}
+
+// The slots from `from` on, which are too few for a four.
+fn quick_rest(t: Quick, level: &[u32], from: usize, count: usize, least: u32, most: u32) -> Quick
+    requires { ⌜ (2 + 3 * count ≤ length (now level)) × (count ≤ 1024) ⌝ }
+    ensures { λ r. ⌜ r ≡ quickAll least most t (slots (now (level .entry)) from (count - from)) ⌝ }
+{
+    let mut seen = t;
+    let mut next = from;
+    while next < count {
+        seen = quick_bucket(seen, slot_at(level, next), least, most);
+        next += 1;
+    }
+    seen
+}
+
+fn quick_buckets(level: &[u32], count: usize, least: u32, most: u32) -> Quick
+    requires { ⌜ (2 + 3 * count ≤ length (now level)) × (count ≤ 1024) × (0 < count) ⌝ }
+    ensures { λ r. ⌜ r ≡ quickWhole least most (getD (now (level .entry)) 1 0) (slots (now (level .entry)) 0 count) ⌝ }
+{
+    let t = quick_fours(level, count, least, most);
+    quick_rest(t, level, count / 4 * 4, count, least, most)
+}
+
+// What the weight of a bucket that is longer than 1 has at most above the least one.
+fn most(count: usize, i: u8) -> u32
+    requires { ⌜ i ≤ 30 ⌝ }
+    ensures { λ r. ⌜ r ≡ mostOf count i ⌝ }
+{
+    if 2 <= count {
+        power(i) - 1
+    } else {
+        2 * power(i) - 1
+    }
+}
+
+// Whether a quick pass tells that the buckets are sound and their weights' sum below 2 ^ 32.
+fn is_enough(t: Quick, first: u32, k: u8, least: u32) -> bool
+    requires { ⌜ k ≤ 31 ⌝ }
+    ensures { λ r. ⌜ r ≡ enough k least first t ⌝ }
+{
+    let top = power(k);
+    let small = both(t.extra < 2097152, least <= 1048576);
+    both(
+        first < top,
+        both(
+            t.faults == 0,
+            both(t.reach / 2 < top, both(t.end == top, small)),
+        ),
+    )
+}
+
+// By the quick pass, where that is enough.
+fn judge(level: &[u32], count: usize, k: u8, i: u8) -> Verdict
+    requires { ⌜ (2 + 3 * count ≤ length (now level)) × (count ≤ 1024) × (k ≤ 20) × (i ≤ 24) ⌝ }
+    ensures { λ r. ⌜ Judged k i (getD (now (level .entry)) 1 0) (slots (now (level .entry)) 0 count) r ⌝ }
+{
+    if i == 0 {
+        return judge_seen(level, count, k, i);
+    }
+    if count == 0 {
+        return judge_seen(level, count, k, i);
+    }
+    let low = least(count, i);
+    let t = quick_buckets(level, count, low, most(count, i));
+    if is_enough(t, level[1], k, low) {
+        return Verdict {
+            weight: long(t.sum),
+            sound: true,
+        };
+    }
+    judge_seen(level, count, k, i)
+}
+
+// Whether the words of level i are sound in a half of this total. The words may be any.
+pub fn sound_level(level: &[u32], s: Shape, i: u8, total: u64) -> bool
+    requires { ⌜ (length (now level) ≡ levelWords s) × (s .n ≤ 1024) × (s .k ≤ 20) × (i ≤ 24) ⌝ }
+    ensures { λ r. ⌜ r ≡ soundLevel s i total (now (level .entry)) ⌝ }
+{
+    let count = wide(level[0]);
+    let first = level[1];
+    let n = s.n as usize;
+    if n < count {
+        return false;
+    }
+    let unused = is_zero(level, 2 + 3 * count);
+    let v = judge(level, count, s.k, i);
+    let weight = v.weight;
+    let whole = implied(first == 0, weight == total);
+    let full = implied(0 < first, count == n);
+    let rest = both(whole, both(full, v.sound));
+    both(unused, both(weight <= total, rest))
+}

@@ -1,0 +1,70 @@
+-- The bucket that a slot's words stand for, and the slots from one that was read. Assumes nothing.
+use mathlib.Core.List.{List, [], _∷_}
+use mathlib.Core.Path.{_≡_, sym, ap, _∙_}
+use Prim.Native.Nat.{ℕ, suc, _+_, _-_, _*_, _≤_, _<_}
+use native.Mathlib.Nat.{add-zero}
+use native.Mathlib.Omega.{arith}
+use lib.ListN.{length, getD, take, drop, length-drop}
+use lib.Seq.{take-all, getD-drop, drop-drop}
+use Rattle.model.specs.Level.{Bucket, bucketOf}
+use Rattle.model.specs.Words.{slot, slots}
+use Rattle.laws.specs.LevelWords.{slots-step}
+use Rattle.words.specs.declared.Slot.{Slot}
+
+abbrev pub content : Slot → Bucket
+content b = bucketOf (b .offset) (b .width) (b .weight)
+
+abbrev pub front : List ℕ → Bucket  -- the slot at the front of words
+front ws = bucketOf (getD ws 0 0) (getD ws 1 0) (getD ws 2 0)
+
+abbrev pub fronts : List ℕ → List Bucket  -- the four slots at the front
+fronts ws = front ws ∷ (front (drop 3 ws) ∷ (front (drop 6 ws) ∷ (front (drop 9 ws) ∷ [])))
+
+pub front-slot : (ws : List ℕ) (j : ℕ) → front (drop (2 + 3 * j) ws) ≡ slot ws j
+front-slot ws j = simp (getD-drop, add-zero)
+
+-- a part of words up to their end
+pub part-all : (ws : List ℕ) (n : ℕ) → take (length ws - n) (drop n ws) ≡ drop n ws
+part-all ws n = take-all (length ws - n) (drop n ws) (omega (arith, length-drop n ws))
+
+-- words from `a` on, and then past n more
+moved : (rest ws : List ℕ) (a n : ℕ) → rest ≡ drop a ws → take (length rest - n) (drop n rest) ≡ drop (a + n) ws
+moved rest ws a n e = part-all rest n ∙ ap (drop n) e ∙ drop-drop n a ws
+
+-- past slot j, slot j + 1 is at the front
+pub front-moved : (rest ws : List ℕ) (j : ℕ) → rest ≡ drop (2 + 3 * j) ws → take (length rest - 3) (drop 3 rest) ≡ drop (2 + 3 * (j + 1)) ws
+front-moved rest ws j e =
+    moved rest ws (2 + 3 * j) 3 e ∙ ap (λ (n : ℕ). drop n ws) {x = 2 + 3 * j + 3} {y = 2 + 3 * (j + 1)} (omega arith)
+
+-- past four slots from slot j on, slot j + 4 is
+pub fronts-moved : (rest ws : List ℕ) (j : ℕ) → rest ≡ drop (2 + 3 * j) ws
+    → take (length rest - 12) (drop 12 rest) ≡ drop (2 + 3 * (j + 4)) ws
+fronts-moved rest ws j e =
+    moved rest ws (2 + 3 * j) 12 e ∙ ap (λ (n : ℕ). drop n ws) {x = 2 + 3 * j + 12} {y = 2 + 3 * (j + 4)} (omega arith)
+
+-- the slot that starts n words after slot j
+front-at : (ws rest : List ℕ) (j n m : ℕ) → rest ≡ drop (2 + 3 * j) ws → n + 3 * j ≡ 3 * m → front (drop n rest) ≡ slot ws m
+front-at ws rest j n m e h =
+    ap (λ (z : List ℕ). front (drop n z)) e ∙ ap front (drop-drop n (2 + 3 * j) ws)
+    ∙ ap (λ (z : ℕ). front (drop z ws)) {x = 2 + 3 * j + n} {y = 2 + 3 * m} (omega (arith, h)) ∙ front-slot ws m
+
+cons-same : {b c : Bucket} {bs cs : List Bucket} → b ≡ c → bs ≡ cs → b ∷ bs ≡ c ∷ cs
+cons-same {b} {c} {bs} {cs} p q = ap (λ (z : Bucket). z ∷ bs) p ∙ ap (λ (z : List Bucket). c ∷ z) q
+
+-- the slots from slot j on are the four at the front and those after them
+pub slots-four : (ws rest : List ℕ) (j c : ℕ) → rest ≡ drop (2 + 3 * j) ws → j + 4 ≤ c
+    → slots ws j (c - j)
+    ≡ front rest ∷ (front (drop 3 rest) ∷ (front (drop 6 rest) ∷ (front (drop 9 rest) ∷ slots ws (j + 4) (c - (j + 4)))))
+slots-four ws rest j c e h =
+    let left = c - (j + 4) in
+    ap (slots ws j) {x = c - j} {y = suc (suc (suc (suc left)))} (omega arith)
+    ∙ cons-same (sym (ap front e ∙ front-slot ws j))
+    (cons-same (sym (front-at ws rest j 3 (j + 1) e (omega arith)))
+    (cons-same (sym (front-at ws rest j 6 (j + 1 + 1) e (omega arith)))
+    (cons-same (sym (front-at ws rest j 9 (j + 1 + 1 + 1) e (omega arith)))
+    (ap (λ (z : ℕ). slots ws z left) {x = j + 1 + 1 + 1 + 1} {y = j + 4} (omega arith)))))
+
+-- where b was read at slot j, the slots from j on are b and those after it
+pub slots-read : (ws : List ℕ) (j c : ℕ) (b : Slot) → content b ≡ slot ws j → j < c
+    → slots ws j (c - j) ≡ content b ∷ slots ws (j + 1) (c - (j + 1))
+slots-read ws j c b read h = slots-step ws j c h ∙ ap (λ (z : Bucket). z ∷ slots ws (j + 1) (c - (j + 1))) (sym read)

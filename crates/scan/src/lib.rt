@@ -11,6 +11,7 @@ ghost use lib.ListN.{length, getD};
 ghost use Rattle.model.specs.Words.{slots, decodeLevel};
 ghost use Rattle.model.specs.Block.{sumFrom};
 ghost use Rattle.laws.specs.Place.{place, EndsRise};
+ghost use Rattle.scan.specs.Search.{isPast, Spans};
 
 // Where a bucket ends.
 fn end(b: Slot) -> u64
@@ -19,14 +20,52 @@ fn end(b: Slot) -> u64
     long(b.offset) + long(b.width)
 }
 
-// How many leading buckets end at or before offset x: the slot of the first that ends past it, or the count. The slots before `low` end
-// at or before x, those from `high` on end past it.
+// Whether there is a slot `step` below `high`, and it ends past offset x.
+fn is_past(level: &[u32], high: usize, step: usize, x: u32) -> bool
+    requires { ⌜ (0 < step) × (2 + 3 * high ≤ length (now level)) ⌝ }
+    ensures { λ r. ⌜ r ≡ isPast (now (level .entry)) high step x ⌝ }
+{
+    if high < step {
+        return false;
+    }
+    long(x) < end(slot_at(level, high - step))
+}
+
+// Slots before `low` end at or before an offset, those from `high` on end past it.
+struct Span {
+    low: usize,
+    high: usize,
+}
+
+// A span for offset x, looked for from the upper end in steps that double: most offsets are near it.
+fn gallop(level: &[u32], x: u32) -> Span
+    requires { ⌜ EndsRise 0 (decodeLevel (now level) .buckets) × (2 + 3 * getD (now level) 0 0 ≤ length (now level)) ⌝ }
+    ensures { λ r. ⌜ Spans x (now (level .entry)) r ⌝ }
+{
+    let mut high = wide(level[0]);
+    let mut step: usize = 1;
+    while is_past(level, high, step, x) {
+        high -= step;
+        step = step * 2;
+    }
+    if high < step {
+        return Span { low: 0, high: high };
+    }
+    Span {
+        low: high - step + 1,
+        high: high,
+    }
+}
+
+// How many leading buckets end at or before offset x: the slot of the first that ends past it, or the count. The span is halved until
+// one place is left.
 pub fn find(level: &[u32], x: u32) -> usize
     requires { ⌜ (2 + 3 * getD (now level) 0 0 ≤ length (now level)) × EndsRise 0 (decodeLevel (now level) .buckets) ⌝ }
     ensures { λ r. ⌜ r ≡ place x (decodeLevel (now (level .entry)) .buckets) ⌝ }
 {
-    let mut low: usize = 0;
-    let mut high = wide(level[0]);
+    let span = gallop(level, x);
+    let mut low = span.low;
+    let mut high = span.high;
     while low < high {
         let mid = low + (high - low) / 2;
         if long(x) < end(slot_at(level, mid)) {

@@ -12,7 +12,9 @@ use words::slot_at;
 use words::slot_from;
 use words::wide;
 ghost use mathlib.Core.Path.{_≡_};
+ghost use mathlib.Core.Bool.{_&&_};
 ghost use Prim.Native.Nat.{_+_, _-_, _*_, _/_, _<_, _≤_};
+ghost use lib.Dec.{eqb};
 ghost use lib.ListN.{length, getD, drop};
 ghost use Rattle.shape.specs.Layout.{levelWords};
 ghost use Rattle.model.specs.Words.{slots};
@@ -21,17 +23,33 @@ ghost use Rattle.words.specs.Slot.{content, fronts};
 ghost use Rattle.pass.specs.Pass.{Judged};
 ghost use Rattle.sound.specs.Quick.{fresh, over, quickBucket, quickAll, marked, quickRun, quickWhole, mostOf, enough};
 
-// Whether all words from `from` on are zero: their bits are collected, and tested once.
+// The bits of the words of `low` and of as many of `high`, joined: two streams at once, so that the compiler takes four vectors a turn.
+fn joined(low: &[u32], high: &[u32]) -> u32
+    requires { ⌜ length (now low) ≤ length (now high) ⌝ }
+    ensures { λ r. ⌜ (eqb r 0 && zeros (drop (length (now (low .entry))) (now (high .entry))))
+        ≡ (zeros (now (low .entry)) && zeros (now (high .entry))) ⌝ }
+{
+    let mut all: u32 = 0;
+    let mut at: usize = 0;
+    while at < low.len() {
+        all = all | low[at] | high[at];
+        at += 1;
+    }
+    all
+}
+
+// Whether all words from `from` on are zero: their bits are collected, and tested once. Where their number is odd, the last word has
+// none beside it; it is taken in any case.
 fn is_zero(level: &[u32], from: usize) -> bool
     ensures { λ r. ⌜ r ≡ zeros (drop from (now (level .entry))) ⌝ }
 {
-    let mut all: u32 = 0;
-    let mut at = from;
-    while at < level.len() {
-        all = all | level[at];
-        at += 1;
+    let len = level.len();
+    if len <= from {
+        return true;
     }
-    all == 0
+    let mid = from + (len - from) / 2;
+    let all = joined(&level[from..mid], &level[mid..]);
+    all | level[len - 1] == 0
 }
 
 // What a quick pass over the buckets of a level from 1 on has collected. Its tests are fewer, and ask more than soundness does: where

@@ -1,12 +1,11 @@
--- Invariant: the place lies between low and high. The slot in the middle, which is below high, tells in which half.
+-- Invariant: the place lies between low and high, as the span says at first. The slot in the middle, which is below high, tells in which half.
 use mathlib.Core.Path.{_≡_, ap, _∙_}
 use Prim.Native.Nat.{_+_, _-_, _/_, _≤_}
 use native.Mathlib.Omega.{arith}
 use borrow.Author.Needs.{needs}
 use lib.ListN.{getD}
-use Rattle.model.specs.Words.{slot, slots, decodeLevel}
-use Rattle.laws.specs.LevelWords.{length-slots}
-use Rattle.laws.specs.Place.{place, endOf, place-le, slot-most, slot-least}
+use Rattle.model.specs.Words.{slot, decodeLevel}
+use Rattle.laws.specs.Place.{place, endOf, slot-most, slot-least}
 use Rattle.scan.proofs.find.Statement.{statement}
 use Rattle.scan.proofs.find.Tie as tie
 
@@ -17,19 +16,11 @@ Inv-loop level x low₀ high₀ low high =
 abbrev μ-loop : tie.MeasureT-loop
 μ-loop level x low₀ high₀ low high = high - low
 
-shared-slice-read-wide : tie.Need-shared-slice-read-wide Inv-loop μ-loop
-shared-slice-read-wide c = search needs
-
-wide-requires : tie.Need-wide-requires Inv-loop μ-loop
-wide-requires c κs = search needs
+gallop-requires : tie.Need-gallop-requires Inv-loop μ-loop
+gallop-requires c κs = search needs
 
 loop-holds : tie.Need-loop-holds Inv-loop μ-loop
-unfolding decodeLevel
-loop-holds c =
-    let a = c .before .before .before .args in
-    let ws = a .level .now in
-    let all = getD ws 0 0 in
-    omega (arith, place-le (a .x) (slots ws 0 all), length-slots ws 0 all)
+loop-holds c = c .gallop .ensures
 
 sub-mid : tie.Need-sub-mid Inv-loop μ-loop
 sub-mid c = search needs
@@ -53,13 +44,13 @@ loop-less c = omega arith
 ends : (c : tie.After-end Inv-loop μ-loop) →
     let l = c .before .before .before .before in
     let low = l .loop .low in
-    c .end .result ≡ endOf (slot (l .before .before .before .before .args .level .now) (low + (l .loop .high - low) / 2))
+    c .end .result ≡ endOf (slot (l .before .before .before .args .level .now) (low + (l .loop .high - low) / 2))
 ends c = c .end .ensures ∙ ap endOf (c .before .slot-at .ensures)
 
 loop-again : tie.Need-loop-again Inv-loop μ-loop
 loop-again c =
     let l = c .before .before .before .before .before in
-    let a = l .before .before .before .before .args in
+    let a = l .before .before .before .args in
     let low = l .loop .low in
     omega (arith, slot-most (a .level .now) (a .x) (low + (l .loop .high - low) / 2) (omega arith) (omega (arith, ends (c .before))))
 
@@ -72,7 +63,7 @@ loop-less-2 c = omega arith
 loop-again-2 : tie.Need-loop-again-2 Inv-loop μ-loop
 loop-again-2 c =
     let l = c .before .before .before .before .before in
-    let s = l .before .before .before .before in
+    let s = l .before .before .before in
     let a = s .args in
     let low = l .loop .low in
     omega (arith, slot-least (a .level .now) (a .x) (low + (l .loop .high - low) / 2) (omega arith) (s .pre .1) (omega (arith, ends (c .before))))
@@ -86,8 +77,7 @@ find-spec =
     (tie.spec
     Inv-loop
     μ-loop
-    shared-slice-read-wide
-    wide-requires
+    gallop-requires
     loop-holds
     sub-mid
     add-mid

@@ -1,60 +1,88 @@
--- Invariant: the bits so far are none and the words from `at` on are zero just where those from `from` on are.
-use mathlib.Core.Bool.{_&&_, and-assoc}
-use mathlib.Core.Path.{_≡_, refl, sym, _∙_}
-use Prim.Native.Nat.{_+_, _-_}
-use lib.Dec.{eqb}
-use lib.ListN.{length, getD, drop, drop-of-length-le}
+-- The two parts are as long, or the second has one word more, the last: with that one all words from `from` on are joined.
+use Prim.Native.Nat.{_+_, _-_, _/_, _≤_}
+use native.Mathlib.Nat.{add-sub-cancel-left}
+use native.Mathlib.Omega.{arith}
+use lib.ListN.{length, drop, drop-of-length-le, length-drop}
+use lib.Seq.{length-take-le}
 use borrow.Author.Needs.{needs}
-use Rattle.model.specs.Sound.{zeros}
-use Rattle.words.specs.Bits.{or-tested}
-use Rattle.sound.specs.Zeros.{zeros-step, and-all}
+use Rattle.words.specs.Slot.{part-all}
+use Rattle.sound.specs.Zeros.{zeros-halves}
 use Rattle.sound.proofs.is_zero.Statement.{statement}
 use Rattle.sound.proofs.is_zero.Tie as tie
 
-abbrev Inv-loop : tie.InvT-loop
-Inv-loop level from all₀ at₀ all at = (eqb all 0 && zeros (drop at level)) ≡ zeros (drop from level)
+returns : tie.Need-returns
+returns c = let a = c .before .before .args in rw (drop-of-length-le (a .level .now) (c .if1 .taken))
 
-abbrev μ-loop : tie.MeasureT-loop
-μ-loop level from all₀ at₀ all at = length level - at
+sub-mid : tie.Need-sub-mid
+sub-mid c = search needs
 
-loop-holds : tie.Need-loop-holds Inv-loop μ-loop
-loop-holds c = refl
+add-mid : tie.Need-add-mid
+add-mid c = search needs
 
-mul-all : tie.Need-mul-all Inv-loop μ-loop
-mul-all c = search needs
+mul-joined : tie.Need-mul-joined
+mul-joined c = search needs
 
-shared-slice-read-all : tie.Need-shared-slice-read-all Inv-loop μ-loop
-shared-slice-read-all c = search needs
+sub-joined : tie.Need-sub-joined
+sub-joined c = search needs
 
-add-at : tie.Need-add-at Inv-loop μ-loop
-add-at c = search needs
+part-joined-start : tie.Need-part-joined-start
+part-joined-start c = search needs
 
-loop-less : tie.Need-loop-less Inv-loop μ-loop
-loop-less c = search needs
+part-joined-end : tie.Need-part-joined-end
+part-joined-end c = search needs
 
-loop-again : tie.Need-loop-again Inv-loop μ-loop
-loop-again c =
-    let l = c .before .before in
-    let ws = l .before .args .level .now in
-    let word = getD ws (l .loop .at) 0 in
-    let rest = zeros (drop (l .loop .at + 1) ws) in
-    let step = zeros-step ws (l .loop .at) (c .before .loop-test .taken) in
-    rw (or-tested (l .loop .all) word, and-assoc (eqb (l .loop .all) 0) (eqb word 0) rest) (rw step at (l .loop .inv))
+mul-joined-2 : tie.Need-mul-joined-2
+mul-joined-2 c = search needs
 
-returns : tie.Need-returns Inv-loop μ-loop
-returns c = let l = c .before in
-    sym (and-all (eqb (l .loop .all) 0)) ∙ rw (drop-of-length-le (l .before .args .level .now) (c .loop-test .left)) at (l .loop .inv)
+sub-joined-2 : tie.Need-sub-joined-2
+sub-joined-2 c = search needs
+
+part-joined-start-2 : tie.Need-part-joined-start-2
+part-joined-start-2 c = search needs
+
+part-joined-end-2 : tie.Need-part-joined-end-2
+part-joined-end-2 c = search needs
+
+joined-requires : tie.Need-joined-requires
+joined-requires c κs = search needs
+
+sub-result : tie.Need-sub-result
+sub-result c = search needs
+
+mul-result : tie.Need-mul-result
+mul-result c = search needs
+
+shared-slice-read-result : tie.Need-shared-slice-read-result
+shared-slice-read-result c = search needs
+
+returns-2 : tie.Need-returns-2
+returns-2 c =
+    let j = c .before .joined in
+    let a = c .before .before .before .before .before .before .args in
+    let ws = a .level .now in
+    let half = (length ws - a .from) / 2 in
+    let mid = a .from + half in
+    let long : half ≤ length (drop (a .from) ws) = omega (arith, length-drop (a .from) ws) in
+    let parts = rw (part-all ws mid, add-sub-cancel-left, length-take-le half (drop (a .from) ws) long) at (j .ensures) in
+    zeros-halves ws (a .from) half (j .result) (omega arith) (omega arith) parts
 
 pub is-zero-spec : {M : Type 1} → statement M
 is-zero-spec =
     tie.close
     (tie.spec
-    Inv-loop
-    μ-loop
-    loop-holds
-    mul-all
-    shared-slice-read-all
-    add-at
-    loop-less
-    loop-again
-    returns)
+    returns
+    sub-mid
+    add-mid
+    mul-joined
+    sub-joined
+    part-joined-start
+    part-joined-end
+    mul-joined-2
+    sub-joined-2
+    part-joined-start-2
+    part-joined-end-2
+    joined-requires
+    sub-result
+    mul-result
+    shared-slice-read-result
+    returns-2)

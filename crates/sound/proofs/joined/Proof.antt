@@ -1,0 +1,70 @@
+-- Invariant: the bits so far are none and the words of both from `at` on are zero just where all are.
+use mathlib.Core.Bool.{_&&_}
+use mathlib.Core.Path.{_≡_, refl, _∙_}
+use Prim.Native.Nat.{_-_, _≤_}
+use native.Mathlib.Omega.{arith}
+use lib.Dec.{eqb}
+use lib.ListN.{length, drop, drop-of-length-le}
+use borrow.Author.Needs.{needs}
+use Rattle.model.specs.Sound.{zeros}
+use Rattle.sound.specs.Zeros.{zeros-pair}
+use Rattle.sound.proofs.joined.Statement.{statement}
+use Rattle.sound.proofs.joined.Tie as tie
+
+abbrev Inv-loop : tie.InvT-loop
+Inv-loop low high all₀ at₀ all at =
+    (at ≤ length low) × ((eqb all 0 && (zeros (drop at low) && zeros (drop at high))) ≡ (zeros low && zeros high))
+
+abbrev μ-loop : tie.MeasureT-loop
+μ-loop low high all₀ at₀ all at = length low - at
+
+loop-holds : tie.Need-loop-holds Inv-loop μ-loop
+loop-holds c = (omega arith, refl)
+
+mul-all : tie.Need-mul-all Inv-loop μ-loop
+mul-all c = search needs
+
+shared-slice-read-all : tie.Need-shared-slice-read-all Inv-loop μ-loop
+shared-slice-read-all c = search needs
+
+mul-all-2 : tie.Need-mul-all-2 Inv-loop μ-loop
+mul-all-2 c = search needs
+
+shared-slice-read-all-2 : tie.Need-shared-slice-read-all-2 Inv-loop μ-loop
+shared-slice-read-all-2 c = search needs
+
+add-at : tie.Need-add-at Inv-loop μ-loop
+add-at c = search needs
+
+loop-less : tie.Need-loop-less Inv-loop μ-loop
+loop-less c = search needs
+
+loop-again : tie.Need-loop-again Inv-loop μ-loop
+loop-again c =
+    let l = c .before .before .before in
+    let a = l .before .args in
+    (omega arith, zeros-pair (a .low .now) (a .high .now) (l .loop .all) (l .loop .at) (omega arith) (omega arith) ∙ l .loop .inv .1)
+
+returns : tie.Need-returns Inv-loop μ-loop
+returns c =
+    let l = c .before in
+    let low = l .before .args .low .now in
+    let all : l .loop .at ≡ length low = omega arith in
+    let none : length low ≤ length low = omega arith in
+    rw (drop-of-length-le low none) at (rw all at (l .loop .inv .1))
+
+pub joined-spec : {M : Type 1} → statement M
+joined-spec =
+    tie.close
+    (tie.spec
+    Inv-loop
+    μ-loop
+    loop-holds
+    mul-all
+    shared-slice-read-all
+    mul-all-2
+    shared-slice-read-all-2
+    add-at
+    loop-less
+    loop-again
+    returns)

@@ -7,7 +7,7 @@ use native.Mathlib.Nat.{sub-zero, mul-le-mul-right}
 use native.Mathlib.Numerals.{add-one}
 use native.Mathlib.Omega.{arith}
 use lib.ListN.{length, getD}
-use lib.Pow.{pow-pos, pow-mono, shr-lt}
+use lib.Pow.{pow-pos, pow-mono}
 use lib.Dec.{eqb}
 use borrow.Author.Tests.{le-leb, lt-leb}
 use Rattle.shape.specs.declared.Shape.{Shape}
@@ -113,10 +113,6 @@ module _ (s : Shape) (ws : List ℕ) (w : Whole s ws) (parity : ℕ) (p : parity
       omega (arith, whole-total s ws w parity p, pow-pos (s .last), mul-le-mul-right {m = 2} {n = s .n} (2 ^ s .last) (w .proper .limits .low-n)) in
       let whole : l .first ≡ 0 = sound-serves (w .proper .limits .low-n) (whole-level s ws w parity p (s .last) (omega arith)) small in
       serving-here s parity ws (s .last) (omega arith) a (omega arith)
-
--- an interval's number leaves room for the next one's
-pub interval-small : (s : Shape) (t : ℕ) → 2 ≤ s .k → t < 2 ^ 32 → interval s t < 2 ^ 30
-interval-small s t low h = shr-lt {n = t} 30 (s .k) (omega (arith, pow-mono {i = 32} {j = 30 + s .k} (omega arith)))
 
 -- the answer, read from the words
 pub answer-decode : (s : Shape) (clock start : ℕ) (ws : List ℕ) → answer s clock start (decodeBlock s ws) ≡ (

@@ -1,48 +1,17 @@
-// One grade's block, on its part of the words: read, emptied, asked.
+// One grade's block read, on its part of the words: its soundness, its room, its sums.
 use shape::Shape;
+use stamp::interval;
+use stamp::offset;
+use stamp::parity;
 ghost use mathlib.Core.Path.{_≡_};
 ghost use Prim.Native.Nat.{_+_, _%_, _^_, _≤_};
 ghost use lib.Dec.{ltb};
-ghost use lib.ListN.{length, getD, replicate};
-ghost use Rattle.shape.specs.Layout.{levelWords};
-ghost use Rattle.model.specs.Words.{levelPart, decodeHalf, decodeBlock, encodeBlock};
-ghost use Rattle.model.specs.Block.{interval, offsetOf, halfOf, emptyHalf, advance, serving, answer};
+ghost use lib.ListN.{length, getD};
+ghost use Rattle.model.specs.Words.{levelPart, decodeHalf, decodeBlock};
+ghost use Rattle.model.specs.Block.{interval, halfOf, serving, answer};
 ghost use Rattle.model.specs.Sound.{soundHalf, soundBlock};
 ghost use Rattle.laws.specs.Proper.{Sized, Whole};
-ghost use Rattle.laws.specs.BlockWrites.{withLevel};
-ghost use Rattle.laws.specs.Halves.{emptyWords, emptied};
 ghost use Rattle.block.specs.Steps.{LevelIn, levelAt};
-
-// The ticks of an interval.
-fn ticks(s: Shape) -> u32
-    requires { ⌜ s .k ≤ 31 ⌝ }
-    ensures { λ r. ⌜ r ≡ 2 ^ s .k ⌝ }
-{
-    1 << s.k
-}
-
-// The interval in which a tick lies.
-pub fn interval(s: Shape, t: u32) -> u32
-    requires { ⌜ s .k ≤ 31 ⌝ }
-    ensures { λ r. ⌜ r ≡ interval s t ⌝ }
-{
-    t >> s.k
-}
-
-// Its offset there.
-pub fn offset(s: Shape, t: u32) -> u32
-    requires { ⌜ s .k ≤ 31 ⌝ }
-    ensures { λ r. ⌜ r ≡ offsetOf s t ⌝ }
-{
-    t % ticks(s)
-}
-
-// The parity of the half that serves an interval.
-pub fn parity(j: u32) -> u8
-    ensures { λ r. ⌜ r ≡ j % 2 ⌝ }
-{
-    (j % 2) as u8
-}
 
 // What a half holds at most.
 fn capacity(s: Shape) -> u64
@@ -108,78 +77,6 @@ pub fn check(block: &[u32], s: Shape) -> bool
         return false;
     }
     check_half(block, s, 1)
-}
-
-fn zero(words: &mut [u32])
-    ensures { λ _. ⌜ now (words .exit) ≡ replicate (length (now (words .entry))) 0 ⌝ }
-{
-    let mut at: usize = 0;
-    while at < words.len() {
-        words[at] = 0;
-        at += 1;
-    }
-}
-
-// Writes level i of an empty half.
-fn clear_level(level: &mut [u32], s: Shape, i: u8)
-    requires { ⌜ (length (now level) ≡ levelWords s) × (2 ≤ s .n) × (s .k ≤ 31) ⌝ }
-    ensures { λ _. ⌜ now (level .exit) ≡ emptyWords s i ⌝ }
-{
-    zero(level);
-    if 0 < i {
-        level[0] = 1;
-        level[3] = ticks(s);
-    }
-}
-
-// Empties one level in its place.
-fn clear_at(block: &mut [u32], s: Shape, parity: u8, i: u8)
-    requires { ⌜ LevelIn s parity i (now block) ⌝ }
-    ensures { λ _. ⌜ now (block .exit) ≡ withLevel s parity i (emptyWords s i) (now (block .entry)) ⌝ }
-{
-    let a = s.level_start(parity, i);
-    let e = a + s.level_len();
-    clear_level(&mut block[a..e], s, i);
-}
-
-// Empties the half of a parity: its total and all its levels.
-fn clear_half(block: &mut [u32], s: Shape, parity: u8)
-    requires { ⌜ Sized s (now block) × (parity ≤ 1) ⌝ }
-    ensures { λ _. ⌜ now (block .exit) ≡ emptied s parity (now (block .entry)) ⌝ }
-{
-    let at = parity as usize;
-    block[at] = 0;
-    let mut i: u8 = 0;
-    while i <= s.last {
-        clear_at(block, s, parity, i);
-        i += 1;
-    }
-}
-
-// Empties both halves. The words may be any.
-pub fn clear(block: &mut [u32], s: Shape)
-    requires { ⌜ Sized s (now block) ⌝ }
-    ensures { λ _. ⌜ now (block .exit) ≡ encodeBlock s (record { even = emptyHalf s; odd = emptyHalf s }) ⌝ }
-{
-    clear_half(block, s, 0);
-    clear_half(block, s, 1);
-}
-
-// Empties the halves that the clock empties as it goes from one tick to another.
-pub fn advance(block: &mut [u32], s: Shape, old: u32, new: u32)
-    requires { ⌜ Whole s (now block) ⌝ }
-    ensures { λ _. ⌜ now (block .exit) ≡ encodeBlock s (advance s old new (decodeBlock s (now (block .entry)))) ⌝ }
-{
-    let from = interval(s, old);
-    let to = interval(s, new);
-    if to == from {
-        return;
-    }
-    if to == from + 1 {
-        clear_half(block, s, parity(to));
-        return;
-    }
-    clear(block, s);
 }
 
 // The finest level of a half that still covers offset a. The last one always does, so it is not asked.

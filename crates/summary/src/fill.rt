@@ -39,7 +39,7 @@ pub fn deliver_block(block: &mut [u32], s: Shape, stamp: u32, v: u32)
     requires { ⌜ Takes s stamp v (now block) ⌝ }
     ensures { λ _. ⌜ now (block .exit) ≡ encodeBlock s (deliver s stamp v (decodeBlock s (now (block .entry)))) ⌝ }
 {
-    let parity = block::parity(block::interval(s, stamp));
-    let x = block::offset(s, stamp);
+    let parity = stamp::parity(stamp::interval(s, stamp));
+    let x = stamp::offset(s, stamp);
     fill(block, s, stamp, parity, x, v);
 }

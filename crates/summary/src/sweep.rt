@@ -17,7 +17,7 @@ fn clear_block(book: &mut [u32], s: Shape, grade: u32)
 {
     let a = s.block_start(grade);
     let e = a + s.block_len();
-    block::clear(&mut book[a..e], s);
+    erase::clear(&mut book[a..e], s);
 }
 
 // Empties every block. The words may be any.
@@ -39,7 +39,7 @@ fn advance_block(book: &mut [u32], s: Shape, grade: u32, old: u32, new: u32)
 {
     let a = s.block_start(grade);
     let e = a + s.block_len();
-    block::advance(&mut book[a..e], s, old, new);
+    erase::advance(&mut book[a..e], s, old, new);
 }
 
 // Empties in every block the halves that the clock empties.

@@ -3,8 +3,8 @@ use mathlib.Core.Path.{ap, _∙_}
 use native.Mathlib.Omega.{arith}
 use borrow.Author.Needs.{needs}
 use Rattle.laws.specs.Halves.{emptied, emptied-both}
-use Rattle.block.proofs.clear.Statement.{statement}
-use Rattle.block.proofs.clear.Tie as tie
+use Rattle.erase.proofs.clear.Statement.{statement}
+use Rattle.erase.proofs.clear.Tie as tie
 
 clear-half-requires : tie.Need-clear-half-requires
 clear-half-requires c κs = search needs

@@ -7,9 +7,9 @@ use Rattle.model.specs.Block.{interval}
 use Rattle.model.specs.Words.{decodeBlock}
 use Rattle.laws.specs.BlockWords.{encode-decodeBlock}
 use Rattle.laws.specs.Halves.{advance-same, advance-far, emptied-next}
-use Rattle.block.specs.Steps.{interval-small}
-use Rattle.block.proofs.advance.Statement.{statement}
-use Rattle.block.proofs.advance.Tie as tie
+use Rattle.stamp.specs.Interval.{interval-small}
+use Rattle.erase.proofs.advance.Statement.{statement}
+use Rattle.erase.proofs.advance.Tie as tie
 
 interval-requires : tie.Need-interval-requires
 interval-requires c κs = search needs

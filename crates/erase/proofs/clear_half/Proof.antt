@@ -8,8 +8,8 @@ use borrow.Author.Needs.{needs}
 use Rattle.laws.specs.BlockWrites.{withLevel}
 use Rattle.laws.specs.BlockWords.{blockWords-halves}
 use Rattle.laws.specs.Halves.{withLevels, emptyWords, emptied}
-use Rattle.block.proofs.clear_half.Statement.{statement}
-use Rattle.block.proofs.clear_half.Tie as tie
+use Rattle.erase.proofs.clear_half.Statement.{statement}
+use Rattle.erase.proofs.clear_half.Tie as tie
 
 abbrev Inv-loop : tie.InvT-loop
 Inv-loop block₀ s parity at i₀ block i = (i ≤ suc (s .last)) × (length block ≡ length block₀) × (block ≡ withLevels s parity (emptyWords s) i block₀)

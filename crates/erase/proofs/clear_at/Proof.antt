@@ -5,9 +5,9 @@ use native.Mathlib.Omega.{arith}
 use borrow.Rule.Slice.PartMut.{post-is}
 use borrow.Author.Needs.{needs}
 use Rattle.laws.specs.BlockWords.{length-levelPart}
 use Rattle.block.specs.Steps.{level-within}
-use Rattle.block.proofs.clear_at.Statement.{statement}
-use Rattle.block.proofs.clear_at.Tie as tie
+use Rattle.erase.proofs.clear_at.Statement.{statement}
+use Rattle.erase.proofs.clear_at.Tie as tie
 
 level-start-requires : tie.Need-level-start-requires
 level-start-requires c κs = search needs

@@ -3,9 +3,9 @@ use mathlib.Core.Path.{_≡_}
 use native.Mathlib.Omega.{arith}
 use lib.ListN.{length-set}
 use borrow.Author.Needs.{needs}
-use Rattle.block.specs.Blank.{empty-lowest, empty-upper}
-use Rattle.block.proofs.clear_level.Statement.{statement}
-use Rattle.block.proofs.clear_level.Tie as tie
+use Rattle.erase.specs.Blank.{empty-lowest, empty-upper}
+use Rattle.erase.proofs.clear_level.Statement.{statement}
+use Rattle.erase.proofs.clear_level.Tie as tie
 
 zero-requires : tie.Need-zero-requires
 zero-requires c κs = search needs
@@ -13,8 +13,8 @@ zero-requires c κs = search needs
 slice-write-level : tie.Need-slice-write-level
 slice-write-level c = search needs
 
-ticks-requires : tie.Need-ticks-requires
-ticks-requires c κs = search needs
+power-requires : tie.Need-power-requires
+power-requires c κs = search needs
 
 slice-write-level-2 : tie.Need-slice-write-level-2
 slice-write-level-2 c =
@@ -28,7 +28,7 @@ returns : tie.Need-returns
 returns c =
     let z = c .before .before .before .before in
     let d = z .before .before .before in
-    rw (c .ticks .ensures, z .zero .ensures, d .pre .0) (empty-upper (d .args .s .n) (d .args .s .k) (d .args .i) (omega arith) (c .before .if1 .taken))
+    rw (c .power .ensures, z .zero .ensures, d .pre .0) (empty-upper (d .args .s .n) (d .args .s .k) (d .args .i) (omega arith) (c .before .if1 .taken))
 
 same-length-2 : tie.Need-same-length-2
 same-length-2 c = search needs
@@ -46,7 +46,7 @@ clear-level-spec =
     (tie.spec
     zero-requires
     slice-write-level
-    ticks-requires
+    power-requires
     slice-write-level-2
     same-length
     returns

@@ -4,9 +4,9 @@ use Prim.Native.Nat.{_-_, _≤_}
 use native.Mathlib.Omega.{arith}
 use lib.ListN.{length, set}
 use borrow.Author.Needs.{needs}
-use Rattle.block.specs.Blank.{zeroed, zeroed-step, zeroed-all}
-use Rattle.block.proofs.zero.Statement.{statement}
-use Rattle.block.proofs.zero.Tie as tie
+use Rattle.erase.specs.Blank.{zeroed, zeroed-step, zeroed-all}
+use Rattle.erase.proofs.zero.Statement.{statement}
+use Rattle.erase.proofs.zero.Tie as tie
 
 abbrev Inv-loop : tie.InvT-loop
 Inv-loop words₀ at₀ words at = (length words ≡ length words₀) × (at ≤ length words₀) × (words ≡ zeroed at words₀)

@@ -64,10 +64,12 @@ fn judge_query_in(book: &[u32], s: Shape, clock: u32, grade: u32, window: u32) -
 {
     let grades = s.g as u32;
     let widest = scan::power(s.k);
-    if grades <= grade {
+    let known = grade < grades;
+    let wide = widest < window;
+    if !known {
         return Opened::Refused(Refusal::Grade);
     }
-    if widest < window {
+    if wide {
         return Opened::Refused(Refusal::Window);
     }
     if !block_sound(book, s, grade) {

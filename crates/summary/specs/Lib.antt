@@ -1,5 +1,4 @@
 pub mod Head
 pub mod Sweeps
-pub mod Judge
 pub mod Fill
 pub mod Outcome

@@ -26,8 +26,9 @@ use Rattle.laws.specs.Halves.{total-decode}
 use Rattle.laws.specs.BookWords.{limits-within, soundHead-limits, length-blockPart}
 use Rattle.laws.specs.Parts.{allFrom-elim, upFrom-cong, replicate-upFrom}
 use Rattle.laws.specs.Refusals.{settle-accepted, settle-refused, AcceptedClock, accepted-clock, AcceptedDelivery, accepted-delivery, AcceptedQuery, accepted-query}
-use Rattle.summary.specs.Judge.{firstRefusal, numberOf-pos, Open, open-size, open-proper}
-use Rattle.summary.specs.Sweeps.{InBook, AllSound, emptied, advanced}
+use Rattle.judge.specs.Judge.{firstRefusal, numberOf-pos, Open, open-size, open-proper}
+use Rattle.judge.specs.Part.{InBook}
+use Rattle.summary.specs.Sweeps.{AllSound, emptied, advanced}
 use Rattle.summary.specs.Fill.{Takes}
 
 module _ (ws : List ℕ) (call : Call) where

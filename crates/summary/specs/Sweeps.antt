@@ -2,24 +2,16 @@
 use mathlib.Core.Bool.{true}
 use mathlib.Core.Path.{_≡_}
 use mathlib.Core.List.{List}
-use Prim.Native.Nat.{ℕ, _+_, _≤_, _<_}
-use native.Mathlib.Omega.{arith}
+use Prim.Native.Nat.{ℕ, _<_}
 use lib.ListN.{length}
 use Rattle.shape.specs.declared.Shape.{Shape}
-use Rattle.shape.specs.Layout.{bookWords, blockWords, blockStart}
+use Rattle.shape.specs.Layout.{bookWords, blockWords}
 use Rattle.model.specs.Block.{emptyHalf, advance}
 use Rattle.model.specs.Words.{blockPart, decodeBlock, encodeBlock}
 use Rattle.model.specs.Sound.{soundBlock}
 use Rattle.laws.specs.Proper.{Proper}
 use Rattle.laws.specs.BlockWords.{soundBlock-decode}
-use Rattle.laws.specs.BookWords.{blockStart-fits}
 use Rattle.laws.specs.BlockKept.{empty-half, advance-both, both-size}
-
--- a grade of a book of this shape
-pub record InBook (s : Shape) (grade : ℕ) (ws : List ℕ) : Type 0 where
-  pub proper : Proper s
-  pub size : length ws ≡ bookWords s
-  pub inside : grade < s .g
 
 -- a book whose blocks are sound
 pub record AllSound (s : Shape) (ws : List ℕ) : Type 0 where
@@ -42,7 +34,3 @@ pub advanced-size : (s : Shape) (old new : ℕ) (ws : List ℕ) → AllSound s w
 advanced-size s old new ws a grade h =
     both-size s (a .proper) (advance s old new (decodeBlock s (blockPart s grade ws)))
     (advance-both s (a .proper) old new (decodeBlock s (blockPart s grade ws)) (soundBlock-decode s (blockPart s grade ws) (a .sound grade h)))
-
--- the block of a grade lies within its book
-pub block-within : {s : Shape} {grade : ℕ} {ws : List ℕ} → InBook s grade ws → blockStart s grade + blockWords s ≤ length ws
-block-within {s} {grade} b = omega (arith, b .size, blockStart-fits s grade (b .inside))

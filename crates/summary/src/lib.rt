@@ -1,22 +1,19 @@
 // The calls on a whole book: make, clock, delivery and question. Each takes words of any length and content and any numbers; a refused call
 // leaves every word.
-mod admit;
 mod fill;
 mod head;
-mod judge;
-mod part;
 mod sweep;
 
 use fill::deliver_block;
-use head::Opened;
 use head::write_head;
+use judge::Opened;
+use judge::block_at;
 use judge::judge_clock;
 use judge::judge_delivery;
 use judge::judge_query;
 use model::Answer;
 use model::Call;
 use model::Refusal;
-use part::block_at;
 use shape::Checked;
 use shape::Shape;
 use sweep::advance_blocks;
@@ -28,7 +25,7 @@ ghost use Rattle.model.specs.Reply.{replyOf};
 ghost use Rattle.model.specs.Calls.{outcomeOf, perform};
 ghost use Rattle.model.specs.declared.Call.the-variants as Call;
 ghost use Rattle.laws.specs.Proper.{Proper};
-ghost use Rattle.summary.specs.Judge.{firstRefusal, Open};
+ghost use Rattle.judge.specs.Judge.{firstRefusal, Open};
 
 // A book of a shape within its limits, if it has the length that the shape asks.
 fn make_shape(book: &mut [u32], shape: Shape) -> Answer

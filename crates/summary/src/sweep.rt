@@ -4,12 +4,13 @@ ghost use mathlib.Core.Path.{_≡_};
 ghost use mathlib.Core.List.{_++_};
 ghost use lib.ListN.{length, take};
 ghost use Rattle.shape.specs.Layout.{bookWords};
-ghost use Rattle.model.specs.Block.{upFrom, advance};
+ghost use Rattle.model.specs.Block.{upFrom};
 ghost use Rattle.model.specs.Words.{blockPart, withBlock, join};
 ghost use Rattle.model.specs.Sound.{soundBlock};
 ghost use mathlib.Core.Bool.{true};
 ghost use Rattle.laws.specs.Proper.{Proper};
-ghost use Rattle.summary.specs.Sweeps.{InBook, AllSound, emptied, advanced};
+ghost use Rattle.judge.specs.Part.{InBook};
+ghost use Rattle.summary.specs.Sweeps.{AllSound, emptied, advanced};
 
 fn clear_block(book: &mut [u32], s: Shape, grade: u32)
     requires { ⌜ InBook s grade (now book) ⌝ }

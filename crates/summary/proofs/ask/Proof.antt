@@ -1,6 +1,6 @@
 -- The block of the grade alone is handed on; its sum is the answer.
 use borrow.Author.Needs.{needs}
-use Rattle.summary.specs.Judge.{open-inside, open-whole}
+use Rattle.judge.specs.Judge.{open-inside, open-whole}
 use Rattle.summary.specs.Outcome.{query-inside, query-sound, asked-outcome}
 use Rattle.summary.proofs.ask.Statement.{statement}
 use Rattle.summary.proofs.ask.Tie as tie

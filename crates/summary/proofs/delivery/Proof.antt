@@ -2,7 +2,7 @@
 use borrow.Author.Needs.{needs}
 use mathlib.Core.Path.{subst}
 use Rattle.model.specs.declared.Call.the-variants.{Delivery}
-use Rattle.summary.specs.Judge.{Judges}
+use Rattle.judge.specs.Judge.{Judges}
 use Rattle.summary.specs.Outcome.{refused-outcome}
 use Rattle.summary.proofs.delivery.Statement.{statement}
 use Rattle.summary.proofs.delivery.Tie as tie

@@ -2,7 +2,7 @@
 use borrow.Author.Needs.{needs}
 use mathlib.Core.Path.{subst}
 use Rattle.model.specs.declared.Call.the-variants.{Query}
-use Rattle.summary.specs.Judge.{Judges, judges-open}
+use Rattle.judge.specs.Judge.{Judges, judges-open}
 use Rattle.summary.specs.Outcome.{refused-outcome}
 use Rattle.summary.proofs.query.Statement.{statement}
 use Rattle.summary.proofs.query.Tie as tie

@@ -1,6 +1,6 @@
 -- The head is written anew, the blocks stay sound under it and are advanced.
 use borrow.Author.Needs.{needs}
-use Rattle.summary.specs.Judge.{open-size}
+use Rattle.judge.specs.Judge.{open-size}
 use Rattle.summary.specs.Outcome.{book-long, headed-sound, clocked-outcome}
 use Rattle.summary.proofs.set_clock.Statement.{statement}
 use Rattle.summary.proofs.set_clock.Tie as tie

@@ -5,7 +5,7 @@ use borrow.Rule.Slice.PartMut.{post-is}
 use Prim.Native.Nat.{_+_}
 use native.Mathlib.Nat.{add-sub-cancel-left}
 use Rattle.laws.specs.BookWords.{length-blockPart}
-use Rattle.summary.specs.Sweeps.{block-within}
+use Rattle.judge.specs.Part.{block-within}
 use Rattle.summary.proofs.sweep.advance_block.Statement.{statement}
 use Rattle.summary.proofs.sweep.advance_block.Tie as tie
 

@@ -3,7 +3,7 @@ use native.Mathlib.Omega.{arith}
 use borrow.Author.Needs.{needs}
 use borrow.Rule.Slice.PartMut.{post-is}
 use Prim.Native.Nat.{_+_}
-use Rattle.summary.specs.Sweeps.{block-within}
+use Rattle.judge.specs.Part.{block-within}
 use Rattle.summary.proofs.sweep.clear_block.Statement.{statement}
 use Rattle.summary.proofs.sweep.clear_block.Tie as tie
 

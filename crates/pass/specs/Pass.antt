@@ -49,6 +49,10 @@ seeBucket least t b =
       high = t .high + b .weight / 65536;
     }
 
+abbrev pub seeOne : ℕ → ℕ → Seen → Bucket → Seen  -- a bucket of level i
+seeOne zero least = seeSingle
+seeOne (suc j) least = seeBucket least
+
 abbrev pub seeAll : (Seen → Bucket → Seen) → Seen → List Bucket → Seen
 seeAll see t [] = t
 seeAll see t (b ∷ bs) = seeAll see (see t b) bs
@@ -57,8 +61,7 @@ abbrev pub leastOf : ℕ → ℕ → ℕ  -- the least weight of each of `count`
 leastOf count i = cond (leb 2 count) (2 ^ i) 0
 
 abbrev pub seenLevel : ℕ → ℕ → List Bucket → Seen
-seenLevel zero first bs = seeAll seeSingle (unseen first) bs
-seenLevel (suc j) first bs = seeAll (seeBucket (leastOf (length bs) (suc j))) (unseen first) bs
+seenLevel i first bs = seeAll (seeOne i (leastOf (length bs) i)) (unseen first) bs
 
 -- what the lower halves add is below 2 ^ 32, so its remainder is all of it
 unfoldable pub weightSeen : Seen → ℕ

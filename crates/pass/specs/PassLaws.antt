@@ -17,7 +17,7 @@ use Rattle.laws.specs.Reflect.{Tests, tests-same, tests-equal, ltb-tests, eqb-t
 use Rattle.laws.specs.Rise.{Single, Rising}
 use Rattle.laws.specs.SoundFacts.{SoundBucket, Chained, SoundBuckets, buckets-tests}
 use Rattle.words.specs.Bits.{or-none, none-or, or-least, xor-none, none-xor, lone-bit}
-use Rattle.pass.specs.Pass.{unseen, below, less, spread, seeSingle, seeBucket, seeAll, leastOf, seenLevel, weightSeen, soundSeen}
+use Rattle.pass.specs.Pass.{unseen, below, less, spread, seeSingle, seeBucket, seeOne, seeAll, leastOf, seenLevel, weightSeen, soundSeen}
 use Rattle.pass.specs.declared.Seen.{Seen}
 
 -- what the tests ask of a pass
@@ -250,10 +250,9 @@ unfolding seeSingle seeBucket
 seen-weight zero first bs few = all-weight seeSingle (λ t b. refl) (λ t b. refl) first bs few
 seen-weight (suc j) first bs few = all-weight (seeBucket (leastOf (length bs) (suc j))) (λ t b. refl) (λ t b. refl) first bs few
 
-pub seen-upper : (i first : ℕ) (bs : List Bucket) → 0 < i
-    → seenLevel i first bs ≡ seeAll (seeBucket (leastOf (length bs) i)) (unseen first) bs
-seen-upper zero first bs h = absurd (omega arith)
-seen-upper (suc j) first bs h = refl
+pub one-upper : (i least : ℕ) → 0 < i → seeOne i least ≡ seeBucket least
+one-upper zero least h = absurd (omega arith)
+one-upper (suc j) least h = refl
 
 -- ---- soundness
 

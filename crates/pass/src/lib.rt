@@ -10,7 +10,7 @@ ghost use Prim.Native.Nat.{_+_, _*_, _≤_};
 ghost use lib.ListN.{length, getD};
 ghost use Rattle.model.specs.Words.{slots};
 ghost use Rattle.words.specs.Slot.{content};
-ghost use Rattle.pass.specs.Pass.{unseen, below, spread, seeSingle, seeBucket, seeAll, leastOf, seenLevel, weightSeen, soundSeen, Judged};
+ghost use Rattle.pass.specs.Pass.{unseen, below, spread, seeSingle, seeBucket, seeOne, leastOf, seenLevel, weightSeen, soundSeen, Judged};
 
 // What a pass over the buckets of a level has collected. No fault ends the pass: it is to run without a branch, four slots at a time,
 // so all is in words of 32 bits, and is tested once a level.
@@ -94,34 +94,15 @@ fn see_bucket(t: Seen, b: Slot, least: u32) -> Seen
     }
 }
 
-fn see_singles(level: &[u32], count: usize) -> Seen
-    requires { ⌜ (2 + 3 * count ≤ length (now level)) × (count ≤ 1024) ⌝ }
-    ensures { λ r. ⌜ r ≡ seeAll seeSingle (unseen (getD (now (level .entry)) 1 0)) (slots (now (level .entry)) 0 count) ⌝ }
+// A bucket of level i. The level is the same for a whole pass, so the compiler makes two loops of one.
+fn see_one(t: Seen, b: Slot, i: u8, least: u32) -> Seen
+    requires { ⌜ (t .short ≤ 2048) × (t .high ≤ 67108864) ⌝ }
+    ensures { λ r. ⌜ (r ≡ seeOne i least t (content b)) × (r .short ≤ t .short + 2) × (r .high ≤ t .high + 65535) ⌝ }
 {
-    let mut t = start(level[1]);
-    let mut rest = &level[2..];
-    let mut j: usize = 0;
-    while j < count {
-        t = see_single(t, slot_from(rest, 0));
-        rest = &rest[3..];
-        j += 1;
+    if i == 0 {
+        return see_single(t, b);
     }
-    t
-}
-
-fn see_buckets(level: &[u32], count: usize, least: u32) -> Seen
-    requires { ⌜ (2 + 3 * count ≤ length (now level)) × (count ≤ 1024) ⌝ }
-    ensures { λ r. ⌜ r ≡ seeAll (seeBucket least) (unseen (getD (now (level .entry)) 1 0)) (slots (now (level .entry)) 0 count) ⌝ }
-{
-    let mut t = start(level[1]);
-    let mut rest = &level[2..];
-    let mut at: usize = 0;
-    while at < count {
-        t = see_bucket(t, slot_from(rest, 0), least);
-        rest = &rest[3..];
-        at += 1;
-    }
-    t
+    see_bucket(t, b, least)
 }
 
 // The least weight of a bucket of level i from 1 on.
@@ -137,10 +118,16 @@ fn see(level: &[u32], count: usize, i: u8) -> Seen
     requires { ⌜ (2 + 3 * count ≤ length (now level)) × (count ≤ 1024) × (i ≤ 31) ⌝ }
     ensures { λ r. ⌜ r ≡ seenLevel i (getD (now (level .entry)) 1 0) (slots (now (level .entry)) 0 count) ⌝ }
 {
-    if i == 0 {
-        return see_singles(level, count);
+    let low = least(count, i);
+    let mut t = start(level[1]);
+    let mut rest = &level[2..];
+    let mut at: usize = 0;
+    while at < count {
+        t = see_one(t, slot_from(rest, 0), i, low);
+        rest = &rest[3..];
+        at += 1;
     }
-    see_buckets(level, count, least(count, i))
+    t
 }
 
 // The sum of the weights. What the lower halves add is below 2 ^ 32, so its remainder is all of it.

@@ -1,31 +1,115 @@
--- Level 0 is seen bucket by bucket in one way and the other levels in another, as the definition has it.
-use Prim.Native.Nat.{_<_}
+-- Invariant: what is seen and then the slots from `at` on come to what all slots do; `rest` starts at slot `at`; two sums stay small.
+use mathlib.Core.Path.{_≡_, refl, ap, _∙_}
+use Prim.Native.Nat.{_+_, _-_, _*_, _≤_, _<_}
 use native.Mathlib.Omega.{arith}
+use lib.ListN.{length, getD, drop, length-drop}
 use borrow.Author.Needs.{needs}
 use Rattle.model.specs.Words.{slots}
-use Rattle.laws.specs.LevelWords.{length-slots}
-use Rattle.pass.specs.PassLaws.{seen-upper}
+use Rattle.laws.specs.LevelWords.{slots-none, slots-all, length-slots}
+use Rattle.pass.specs.Pass.{unseen, seeOne, seeAll}
+use Rattle.words.specs.Slot.{front, front-slot, part-all, front-moved, slots-read}
 use Rattle.pass.proofs.see.Statement.{statement}
 use Rattle.pass.proofs.see.Tie as tie
 
-see-singles-requires : tie.Need-see-singles-requires
-see-singles-requires c κs = search needs
+abbrev Inv-loop : tie.InvT-loop
+Inv-loop level count i low t₀ rest₀ at₀ t rest at =
+    (at ≤ count) × (t .short ≤ 2 * at) × (t .high ≤ 65535 * at) × (rest ≡ drop (2 + 3 * at) level)
+    × (seeAll (seeOne i low) t (slots level at (count - at)) ≡ seeAll (seeOne i low) (unseen (getD level 1 0)) (slots level 0 count))
 
-returns : tie.Need-returns
-returns c = rw (c .before .if1 .taken) (c .see-singles .ensures)
+abbrev μ-loop : tie.MeasureT-loop
+μ-loop level count i low t₀ rest₀ at₀ t rest at = count - at
 
-least-requires : tie.Need-least-requires
+least-requires : tie.Need-least-requires Inv-loop μ-loop
 least-requires c κs = search needs
 
-see-buckets-requires : tie.Need-see-buckets-requires
-see-buckets-requires c κs = search needs
+shared-slice-read-start : tie.Need-shared-slice-read-start Inv-loop μ-loop
+shared-slice-read-start c = search needs
 
-returns-2 : tie.Need-returns-2
-returns-2 c =
-    let a = c .before .before .before .before .args in
-    let upper : 0 < a .i = omega arith in
-    rw (seen-upper (a .i) _ (slots (a .level .now) 0 (a .count)) upper, length-slots, ← c .before .least .ensures) (c .see-buckets .ensures)
+start-requires : tie.Need-start-requires Inv-loop μ-loop
+start-requires c κs = search needs
+
+sub-rest : tie.Need-sub-rest Inv-loop μ-loop
+sub-rest c = search needs
+
+part-rest-start : tie.Need-part-rest-start Inv-loop μ-loop
+part-rest-start c = search needs
+
+part-rest-end : tie.Need-part-rest-end Inv-loop μ-loop
+part-rest-end c = search needs
+
+loop-holds : tie.Need-loop-holds Inv-loop μ-loop
+loop-holds c = let a = c .before .before .before .before .before .args in
+    rw (c .before .start .ensures, slots-all (a .level .now) (a .count)) (omega arith, omega arith, omega arith, part-all (a .level .now) 2, refl)
+
+-- a slot is left at the front
+left : (c : tie.At-loop Inv-loop μ-loop) → c .loop .at < c .before .before .before .before .before .before .args .count → 3 ≤ length (c .loop .rest .now)
+left c h =
+    let ws = c .before .before .before .before .before .before .args .level .now in
+    rw (c .loop .inv .3, length-drop (2 + 3 * c .loop .at) ws) (omega arith)
+
+slot-from-requires : tie.Need-slot-from-requires Inv-loop μ-loop
+slot-from-requires c κs = left (c .before) (omega arith)
+
+see-one-requires : tie.Need-see-one-requires Inv-loop μ-loop
+see-one-requires c κs = search needs
+
+sub-rest-2 : tie.Need-sub-rest-2 Inv-loop μ-loop
+sub-rest-2 c = left (c .before .before .before) (omega arith)
+
+part-rest-start-2 : tie.Need-part-rest-start-2 Inv-loop μ-loop
+part-rest-start-2 c = left (c .before .before .before) (omega arith)
+
+part-rest-end-2 : tie.Need-part-rest-end-2 Inv-loop μ-loop
+part-rest-end-2 c = search needs
+
+add-at : tie.Need-add-at Inv-loop μ-loop
+add-at c = search needs
+
+loop-less : tie.Need-loop-less Inv-loop μ-loop
+loop-less c = search needs
+
+loop-again : tie.Need-loop-again Inv-loop μ-loop
+loop-again c =
+    let e = c .before .see-one .ensures in
+    let r = c .before .before in
+    let l = r .before .before in
+    let a = l .before .before .before .before .before .before .args in
+    let ws = a .level .now in
+    let at-front = r .slot-from .ensures ∙ ap front (l .loop .inv .3) ∙ front-slot ws (l .loop .at) in
+    let read = slots-read ws (l .loop .at) (a .count) (r .slot-from .result) at-front (omega arith) in (
+      omega arith,
+      omega (arith, e .1),
+      omega (arith, e .2),
+      front-moved (l .loop .rest .now) ws (l .loop .at) (l .loop .inv .3),
+      rw (e .0) (rw read at (l .loop .inv .4)),
+    )
+
+returns : tie.Need-returns Inv-loop μ-loop
+returns c =
+    let l = c .before in
+    let a = l .before .before .before .before .before .before .args in
+    rw (length-slots (a .level .now) 0 (a .count), ← l .before .before .before .before .least .ensures)
+    (rw (slots-none (a .level .now) (l .loop .at) (a .count) (omega arith)) at (l .loop .inv .4))
 
 pub see-spec : {M : Type 1} → statement M
 see-spec =
-    tie.close (tie.spec see-singles-requires returns least-requires see-buckets-requires returns-2)
+    tie.close
+    (tie.spec
+    Inv-loop
+    μ-loop
+    least-requires
+    shared-slice-read-start
+    start-requires
+    sub-rest
+    part-rest-start
+    part-rest-end
+    loop-holds
+    slot-from-requires
+    see-one-requires
+    sub-rest-2
+    part-rest-start-2
+    part-rest-end-2
+    add-at
+    loop-less
+    loop-again
+    returns)

@@ -1,5 +1,4 @@
 -- What the pass saw gives the weight and the soundness of the buckets.
-use mathlib.Core.Path.{_≡_}
 use Prim.Native.Nat.{_≤_}
 use native.Mathlib.Omega.{arith}
 use lib.ListN.{length, getD}

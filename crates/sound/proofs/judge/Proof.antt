@@ -1,5 +1,5 @@
 -- Where the quick pass is enough, its sum is the weight; else the other pass decides.
-use mathlib.Core.Path.{_≡_, sym}
+use mathlib.Core.Path.{sym}
 use Prim.Native.Nat.{_≤_, _<_}
 use native.Mathlib.Omega.{arith}
 use lib.ListN.{length, getD}

@@ -1,7 +1,6 @@
 -- Invariant: what is seen and then the slots from `next` on come to what all slots from `from` on do.
 use mathlib.Core.Path.{_≡_, refl}
 use Prim.Native.Nat.{_-_}
-use native.Mathlib.Omega.{arith}
 use borrow.Author.Needs.{needs}
 use Rattle.model.specs.Words.{slots}
 use Rattle.laws.specs.LevelWords.{slots-none}

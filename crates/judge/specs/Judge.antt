@@ -20,7 +20,7 @@ use Rattle.model.specs.Sound.{allFrom, maxClock, soundHead, soundBlock}
 use Rattle.model.specs.Calls.{View, firstOf, opened, refusals, bookView}
 use Rattle.model.specs.Reply.{numberOf}
 use Rattle.laws.specs.Proper.{Proper, Whole}
-use Rattle.laws.specs.Refusals.{opened-accepted}
+use Rattle.laws.specs.Refusals.{viewOf, opened-accepted}
 use Rattle.model.specs.Claim.{ByCall}
 use Rattle.laws.specs.BookWords.{soundHead-limits, soundHead-clock, length-blockPart}
 use Rattle.judge.specs.declared.head.Opened.{Opened}
@@ -93,17 +93,6 @@ module _ (v : View) (rest : List (Bool × ℕ)) where
       go false true c h = h
       go false false true h = h
       go false false false h = refl
-
--- what the refusals see of an open book
-abbrev pub viewOf : Shape → ℕ → List ℕ → View
-viewOf s clock ws = record {
-  lent = length ws;
-  headSound = soundHead ws;
-  shape = s;
-  clock = clock;
-  blockSound = λ grade. soundBlock s (blockPart s grade ws);
-  total = λ grade stamp. halfOf (interval s stamp) (decodeBlock s (blockPart s grade ws)) .total;
-}
 
 -- which of 11 and 12 refuses a delivery
 abbrev pub roomRefusal : Shape → List ℕ → ℕ → ℕ → ℕ → ℕ

@@ -5,16 +5,30 @@ use mathlib.Core.List.{List}
 use Prim.Native.Nat.{ℕ, zero, suc, _+_, _^_, _≤_, _<_}
 use native.Mathlib.Omega.{arith}
 use lib.Dec.{ltb, eqb}
+use lib.ListN.{length}
 use borrow.Author.Tests.{eq-eqb, ne-eqb, not-false, ltb-true, ltb-false, eqb-true}
+use Rattle.shape.specs.declared.Shape.{Shape}
 use Rattle.shape.specs.Limits.{refused, within, shaped}
 use Rattle.shape.specs.Layout.{bookWords}
 use Rattle.model.specs.declared.Call.{Call}
 use Rattle.model.specs.declared.Call.the-variants.{Make, Clock, Delivery, Query}
-use Rattle.model.specs.Block.{late}
-use Rattle.model.specs.Sound.{allFrom, maxClock}
+use Rattle.model.specs.Block.{late, interval, halfOf}
+use Rattle.model.specs.Words.{blockPart, decodeBlock}
+use Rattle.model.specs.Sound.{allFrom, maxClock, soundHead, soundBlock}
 use Rattle.model.specs.Calls.{View, firstOf, opened, refusals, Outcome, outcomeOf, settle, bookView, accept, perform}
 use Rattle.model.specs.Ledger.{Ledger, ledgerView, note, enter}
 use Rattle.laws.specs.Cases.{by-eq}
+
+-- what the refusals see of words that stand for this shape and this clock
+abbrev pub viewOf : Shape → ℕ → List ℕ → View
+viewOf s clock ws = record {
+  lent = length ws;
+  headSound = soundHead ws;
+  shape = s;
+  clock = clock;
+  blockSound = λ grade. soundBlock s (blockPart s grade ws);
+  total = λ grade stamp. halfOf (interval s stamp) (decodeBlock s (blockPart s grade ws)) .total;
+}
 
 -- lists of refusals that begin alike: the rest is compared where the first condition does not hold
 pub past : (a : Bool) (x : ℕ) {y z : ℕ} → (a ≡ false → y ≡ z) → cond a x y ≡ cond a x z

@@ -14,11 +14,11 @@ use Rattle.model.specs.declared.Call.{Call}
 use Rattle.model.specs.declared.Call.the-variants.{Make, Clock, Delivery, Query}
 use Rattle.model.specs.Block.{Half, interval, late, halfOf}
 use Rattle.model.specs.Words.{blockPart, decodeBlock}
-use Rattle.model.specs.Sound.{allFrom, soundHead, soundBlock}
+use Rattle.model.specs.Sound.{allFrom}
 use Rattle.model.specs.Calls.{View, firstOf, refusals, bookView}
 use Rattle.model.specs.Ledger.{Entry, ledgerOf, ledgerView, volumeOf, ofInterval}
 use Rattle.laws.specs.Parts.{allFrom-intro}
-use Rattle.laws.specs.Refusals.{past}
+use Rattle.laws.specs.Refusals.{viewOf, past}
 use Rattle.ledger.specs.Time.{interval-mono, interval-near}
 use Rattle.ledger.specs.Grown.{halfFed}
 use Rattle.ledger.specs.Book.{halfOf-served}
@@ -31,18 +31,7 @@ module _ (k n m g clock : ℕ) (es : List Entry) where
   abbrev ws : List ℕ
   ws = wordsOf s clock es
 
-  -- what the refusals see of the words, with the shape and the clock that they stand for
-  abbrev grownView : View
-  grownView = record {
-    lent = length ws;
-    headSound = soundHead ws;
-    shape = s;
-    clock = clock;
-    blockSound = λ grade. soundBlock s (blockPart s grade ws);
-    total = λ grade stamp. halfOf (interval s stamp) (decodeBlock s (blockPart s grade ws)) .total;
-  }
-
-  pub bookView-grown : bookView ws ≡ grownView
+  pub bookView-grown : bookView ws ≡ viewOf s clock ws
   unfolding bookView wordsOf
   bookView-grown = refl
 

@@ -217,7 +217,7 @@ pub fn moved(first: &[Table], second: &[Table]) -> String {
     let mut text = String::from("Ratios of a second run against the first:\n\n");
     text.push_str("| table | row | ratio | first | second | moved |\n");
     text.push_str("| --- | --- | --- | --- | --- | --- |\n");
-    let mut most: f64 = 0.0;
+    let (mut most, mut most_on_site): (f64, f64) = (0.0, 0.0);
     for (number, (one, two)) in (1..).zip(first.iter().zip(second)) {
         for (row, again) in one.rows.iter().zip(&two.rows) {
             for (name, timed, other) in RATIOS {
@@ -228,6 +228,9 @@ pub fn moved(first: &[Table], second: &[Table]) -> String {
                 let is = again.times.ratio(timed, other);
                 let by = is / was - 1.0;
                 most = most.max(by.abs());
+                if number == 1 {
+                    most_on_site = most;
+                }
                 let percent = 100.0 * by;
                 writeln!(
                     text,
@@ -238,11 +241,11 @@ pub fn moved(first: &[Table], second: &[Table]) -> String {
             }
         }
     }
-    let verdict = verdict(most <= STEADY);
-    let (percent, limit) = (100.0 * most, 100.0 * STEADY);
+    let verdict = verdict(most_on_site <= STEADY);
+    let [on_site, in_all, limit] = [most_on_site, most, STEADY].map(|part| 100.0 * part);
     writeln!(
         text,
-        "\nThe largest move is {percent:.1} %; at most {limit} %: {verdict}."
+        "\nThe largest move on the site shape is {on_site:.1} %; at most {limit} %: {verdict}. In all tables it is {in_all:.1} %."
     )
     .unwrap();
     text

@@ -12,7 +12,7 @@ use Rattle.model.specs.declared.Call.the-variants.{Make, Clock, Delivery, Query
 use Rattle.model.specs.declared.Refusal.{Refusal}
 use Rattle.model.specs.declared.Answer.the-variants.{Refused}
 use Rattle.model.specs.Reply.{numberOf, replyOf}
-use Rattle.judge.specs.Judge.{numberOf-pos}
+use Rattle.laws.specs.Refusals.{numberOf-pos}
 use Rattle.bench.specs.Lent.{lentTo, lentAfter}
 
 pub lent-inside : (all lent : ℕ) (call : Call) → lent ≤ all → lentTo all lent call ≤ all

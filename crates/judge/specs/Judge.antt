@@ -13,14 +13,13 @@ use Rattle.shape.specs.Layout.{bookWords}
 use Rattle.model.specs.declared.Call.{Call}
 use Rattle.model.specs.declared.Call.the-variants.{Make, Clock, Delivery, Query}
 use Rattle.model.specs.declared.Refusal.{Refusal}
-use Rattle.model.specs.declared.Refusal.the-variants.{Shape as NoShape, Length, Grade, Volume, Window, Limit, Head, Ahead, Late, Back, Block, Full}
 use Rattle.model.specs.Block.{late, interval, halfOf}
 use Rattle.model.specs.Words.{shapeOf, clockOf, blockPart, decodeBlock}
 use Rattle.model.specs.Sound.{allFrom, maxClock, soundHead, soundBlock}
 use Rattle.model.specs.Calls.{View, firstOf, opened, refusals, bookView}
 use Rattle.model.specs.Reply.{numberOf}
 use Rattle.laws.specs.Proper.{Proper, Whole}
-use Rattle.laws.specs.Refusals.{viewOf, opened-accepted}
+use Rattle.laws.specs.Refusals.{numberOf-pos, viewOf, opened-accepted}
 use Rattle.model.specs.Claim.{ByCall}
 use Rattle.laws.specs.BookWords.{soundHead-limits, soundHead-clock, length-blockPart}
 use Rattle.judge.specs.declared.head.Opened.{Opened}
@@ -48,21 +47,6 @@ pub record Due (ws : List ℕ) (s : Shape) (clock grade stamp volume : ℕ) : Ty
   pub fair : (eqb volume 0 || ltb 65535 volume) ≡ false
   pub come : stamp ≤ clock
   pub early : clock ≤ stamp + 2 ^ s .k
-
--- no refusal has the number 0
-pub numberOf-pos : (r : Refusal) → numberOf r ≡ 0 → ⊥
-numberOf-pos NoShape e = omega arith
-numberOf-pos Length e = omega arith
-numberOf-pos Grade e = omega arith
-numberOf-pos Volume e = omega arith
-numberOf-pos Window e = omega arith
-numberOf-pos Limit e = omega arith
-numberOf-pos Head e = omega arith
-numberOf-pos Ahead e = omega arith
-numberOf-pos Late e = omega arith
-numberOf-pos Back e = omega arith
-numberOf-pos Block e = omega arith
-numberOf-pos Full e = omega arith
 
 -- ---- the refusals that every call but make begins with
 

@@ -10,7 +10,7 @@ ghost use Rattle.judge.specs.Head.{Opens, Shaped, isBlank};
 // The clock goes no further.
 pub const MAX_CLOCK: u32 = 2000000000;
 
-// What the first words of a book tell.
+// What the first words of a book tell, or judging a call: the shape and the clock of the book, or the refusal.
 pub enum Opened {
     Book { shape: Shape, clock: u32 },
     Refused(Refusal),

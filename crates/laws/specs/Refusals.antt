@@ -12,12 +12,30 @@ use Rattle.shape.specs.Limits.{refused, within, shaped}
 use Rattle.shape.specs.Layout.{bookWords}
 use Rattle.model.specs.declared.Call.{Call}
 use Rattle.model.specs.declared.Call.the-variants.{Make, Clock, Delivery, Query}
+use Rattle.model.specs.declared.Refusal.{Refusal}
+use Rattle.model.specs.declared.Refusal.the-variants.{Shape as NoShape, Length, Grade, Volume, Window, Limit, Head, Ahead, Late, Back, Block, Full}
+use Rattle.model.specs.Reply.{numberOf}
 use Rattle.model.specs.Block.{late, interval, halfOf}
 use Rattle.model.specs.Words.{blockPart, decodeBlock}
 use Rattle.model.specs.Sound.{allFrom, maxClock, soundHead, soundBlock}
 use Rattle.model.specs.Calls.{View, firstOf, opened, refusals, Outcome, outcomeOf, settle, bookView, accept, perform}
 use Rattle.model.specs.Ledger.{Ledger, ledgerView, note, enter}
 use Rattle.laws.specs.Cases.{by-eq}
+
+-- no refusal has the number 0
+pub numberOf-pos : (r : Refusal) → numberOf r ≡ 0 → ⊥
+numberOf-pos NoShape e = omega arith
+numberOf-pos Length e = omega arith
+numberOf-pos Grade e = omega arith
+numberOf-pos Volume e = omega arith
+numberOf-pos Window e = omega arith
+numberOf-pos Limit e = omega arith
+numberOf-pos Head e = omega arith
+numberOf-pos Ahead e = omega arith
+numberOf-pos Late e = omega arith
+numberOf-pos Back e = omega arith
+numberOf-pos Block e = omega arith
+numberOf-pos Full e = omega arith
 
 -- what the refusals see of words that stand for this shape and this clock
 abbrev pub viewOf : Shape → ℕ → List ℕ → View

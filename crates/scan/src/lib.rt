@@ -8,7 +8,7 @@ ghost use mathlib.Core.Bool.{cond};
 ghost use Prim.Native.Nat.{_+_, _*_, _^_, _<_, _≤_};
 ghost use lib.Dec.{leb};
 ghost use lib.ListN.{length, getD};
-ghost use Rattle.model.specs.Words.{slots, decodeLevel};
+ghost use Rattle.model.specs.Words.{decodeLevel};
 ghost use Rattle.model.specs.Block.{sumFrom};
 ghost use Rattle.laws.specs.Place.{place, EndsRise};
 ghost use Rattle.scan.specs.Search.{isPast, Spans};

@@ -56,6 +56,5 @@ abbrev pub mostOf : ℕ → ℕ → ℕ  -- what the weight of a bucket longer t
 mostOf count i = cond (leb 2 count) (2 ^ i - 1) (2 ^ suc i - 1)
 
 -- as many weights as a level has, each less than 2 ^ 21 above a least one of at most 2 ^ 20, have a sum below 2 ^ 32
-unfoldable pub enough : ℕ → ℕ → ℕ → Quick → Bool
-enough k least first t = ltb first (2 ^ k) && (eqb (t .faults) 0 && (ltb (t .reach / 2) (2 ^ k) && (eqb (t .end) (2 ^ k)
-    && (ltb (t .extra) 2097152 && leb least 1048576))))
+unfoldable pub enough : ℕ → ℕ → Quick → Bool
+enough k first t = ltb first (2 ^ k) && (eqb (t .faults) 0 && (ltb (t .reach / 2) (2 ^ k) && (eqb (t .end) (2 ^ k) && ltb (t .extra) 2097152)))

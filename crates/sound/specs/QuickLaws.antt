@@ -14,7 +14,7 @@ use Rattle.model.specs.Level.{Bucket}
 use Rattle.model.specs.Words.{slots}
 use Rattle.model.specs.Sound.{weightOf, soundBuckets}
 use Rattle.laws.specs.Cases.{lt-or-ge, by-lt, by-le}
-use Rattle.laws.specs.Reflect.{Tests, tests-same, leb-tests, ltb-tests, eqb-tests, and-tests}
+use Rattle.laws.specs.Reflect.{Tests, tests-same, ltb-tests, eqb-tests, and-tests}
 use Rattle.laws.specs.SoundFacts.{SoundBucket, Chained, SoundBuckets, buckets-tests}
 use Rattle.words.specs.Bits.{or-none, or-least, xor-none, lone-bit}
 use Rattle.pass.specs.Pass.{less, leastOf}
@@ -261,43 +261,43 @@ module _ (least most : ℕ) where
 -- ---- the level
 
 -- what the tests of a level ask
-abbrev Tested : ℕ → ℕ → ℕ → Quick → Type 0
-Tested k least first t = (first < 2 ^ k) × Enough k t × (t .end ≡ 2 ^ k) × (least ≤ 1048576)
+abbrev Tested : ℕ → ℕ → Quick → Type 0
+Tested k first t = (first < 2 ^ k) × Enough k t × (t .end ≡ 2 ^ k)
 
-enough-tests : (k least first : ℕ) (t : Quick) → Tests (enough k least first t) (Tested k least first t)
+enough-tests : (k first : ℕ) (t : Quick) → Tests (enough k first t) (Tested k first t)
 unfolding enough
-enough-tests k least first t =
+enough-tests k first t =
     tests-same
     (and-tests (ltb-tests first (2 ^ k)) (and-tests (eqb-tests (t .faults) 0) (and-tests (ltb-tests (t .reach / 2) (2 ^ k))
-    (and-tests (eqb-tests (t .end) (2 ^ k)) (and-tests (ltb-tests (t .extra) 2097152) (leb-tests least 1048576))))))
-    (λ p. (p .0, record { exact = p .1 .0; inside = p .1 .1 .0; near = p .1 .1 .1 .1 .0 }, p .1 .1 .1 .0, p .1 .1 .1 .1 .1))
-    (λ f. let p = f .1 in (f .0, (p .exact, (p .inside, (f .2, (p .near, f .3))))))
+    (and-tests (eqb-tests (t .end) (2 ^ k)) (ltb-tests (t .extra) 2097152)))))
+    (λ p. (p .0, record { exact = p .1 .0; inside = p .1 .1 .0; near = p .1 .1 .1 .1 }, p .1 .1 .1 .0))
+    (λ f. let p = f .1 in (f .0, (p .exact, (p .inside, (f .2, p .near)))))
 
--- enough is seen by a quick pass over all buckets of level i
-abbrev pub SeenEnough : ℕ → ℕ → ℕ → List Bucket → Type 0
-SeenEnough k i first bs =
-    let count = length bs in
-    enough k (leastOf count i) first (quickWhole (leastOf count i) (mostOf count i) first bs) ≡ true
+-- a quick pass over all buckets of level i, where the least weight is small, sees enough
+pub record SeenEnough (k i first : ℕ) (bs : List Bucket) : Type 0 where
+  pub upper : 0 < i
+  pub low : i ≤ 24
+  pub small : leastOf (length bs) i ≤ 1048576
+  pub seen : enough k first (quickWhole (leastOf (length bs) i) (mostOf (length bs) i) first bs) ≡ true
 
 module _ (k first : ℕ) (few : k ≤ 20) where
-  quick-level : (i : ℕ) (bs : List Bucket) → 0 < i → i ≤ 24 → SeenEnough k i first bs
-      → SoundBuckets k i first bs × (weightOf bs ≤ 3145728 * length bs)
-  quick-level zero bs h low e = absurd (omega arith)
-  quick-level (suc j) [] h low e = let f = enough-tests k _ first (fresh first 0) .0 e in absurd (omega (arith, f .0, f .2))
-  quick-level (suc j) (b ∷ bs) h low e =
+  quick-level : (i : ℕ) (bs : List Bucket) → SeenEnough k i first bs → SoundBuckets k i first bs × (weightOf bs ≤ 3145728 * length bs)
+  quick-level zero bs e = absurd (omega (arith, e .upper))
+  quick-level (suc j) [] e = let f = enough-tests k first (fresh first 0) .0 (e .seen) in absurd (omega (arith, f .0, f .2))
+  quick-level (suc j) (b ∷ bs) e =
       let count = length (b ∷ bs) in
       let t = fresh first (b .width) in
-      let f = enough-tests k _ first _ .0 e in
+      let f = enough-tests k first _ .0 (e .seen) in
       let near : first ≤ 2 ^ 21 = omega (arith, f .0, pow-mono few) in
-      let begun = run-before k (suc j) count few low (f .3) 3 t (b ∷ bs) (f .1) in
+      let begun = run-before k (suc j) count few (e .low) (e .small) 3 t (b ∷ bs) (f .1) in
       let l = reached 21 (b .width) (omega arith) (omega (arith, begun .inside, pow-mono few)) in
-      let c = run-linked k (suc j) count few low (f .3) 3 21 t (b ∷ bs) refl (omega arith) near (λ _. (l .some, l .most)) (f .1) (f .2) in
+      let c = run-linked k (suc j) count few (e .low) (e .small) 3 21 t (b ∷ bs) refl (omega arith) near (λ _. (l .some, l .most)) (f .1) (f .2) in
       ((omega arith, c .0), c .1)
 
-  pub enough-sound : (i : ℕ) (bs : List Bucket) → 0 < i → i ≤ 24 → SeenEnough k i first bs → soundBuckets k i first bs ≡ true
-  enough-sound i bs h low e = buckets-tests k i first bs .1 (quick-level i bs h low e .0)
+  pub enough-sound : (i : ℕ) (bs : List Bucket) → SeenEnough k i first bs → soundBuckets k i first bs ≡ true
+  enough-sound i bs e = buckets-tests k i first bs .1 (quick-level i bs e .0)
 
-  pub enough-weight : (i : ℕ) (bs : List Bucket) → 0 < i → i ≤ 24 → length bs ≤ 1024 → SeenEnough k i first bs
+  pub enough-weight : (i : ℕ) (bs : List Bucket) → length bs ≤ 1024 → SeenEnough k i first bs
       → quickWhole (leastOf (length bs) i) (mostOf (length bs) i) first bs .sum ≡ weightOf bs
-  enough-weight i bs h low small e =
-      omega (arith, run-sum (leastOf (length bs) i) (mostOf (length bs) i) 3 (fresh first (firstWidth bs)) bs (omega arith), quick-level i bs h low e .1)
+  enough-weight i bs small e =
+      omega (arith, run-sum (leastOf (length bs) i) (mostOf (length bs) i) 3 (fresh first (firstWidth bs)) bs (omega arith), quick-level i bs e .1)

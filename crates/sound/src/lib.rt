@@ -59,7 +59,7 @@ struct Quick {
     end: u32,
     // Bits that must be 0.
     faults: u32,
-    // The bits of numbers that must be below 2 ^ (k + 1): ends, and the number before the first length.
+    // The bits of numbers that must be below 2 ^ (k + 1): every fourth end, and the number before the first length.
     reach: u32,
     // The bits of what each weight is above the least one.
     extra: u32,
@@ -186,13 +186,13 @@ fn most(count: usize, i: u8) -> u32
     }
 }
 
-// Whether a quick pass tells that the buckets are sound and their weights' sum below 2 ^ 32.
-fn is_enough(t: Quick, first: u32, k: u8, least: u32) -> bool
+// Whether a quick pass tells that the buckets are sound and, where the least weight is at most 2 ^ 20, their weights' sum below 2 ^ 32.
+fn is_enough(t: Quick, first: u32, k: u8) -> bool
     requires { ⌜ k ≤ 31 ⌝ }
-    ensures { λ r. ⌜ r ≡ enough k least first t ⌝ }
+    ensures { λ r. ⌜ r ≡ enough k first t ⌝ }
 {
     let top = power(k);
-    let small = both(t.extra < 2097152, least <= 1048576);
+    let small = t.extra < 2097152;
     both(
         first < top,
         both(
@@ -202,7 +202,8 @@ fn is_enough(t: Quick, first: u32, k: u8, least: u32) -> bool
     )
 }
 
-// By the quick pass, where that is enough.
+// The weight of a level's buckets, and whether they are sound: by the quick pass, where that is enough. It is not tried where a sum of
+// the least weights may pass 2 ^ 32.
 fn judge(level: &[u32], count: usize, k: u8, i: u8) -> Verdict
     requires { ⌜ (2 + 3 * count ≤ length (now level)) × (count ≤ 1024) × (k ≤ 20) × (i ≤ 24) ⌝ }
     ensures { λ r. ⌜ Judged k i (getD (now (level .entry)) 1 0) (slots (now (level .entry)) 0 count) r ⌝ }
@@ -214,8 +215,11 @@ fn judge(level: &[u32], count: usize, k: u8, i: u8) -> Verdict
         return judge_seen(level, count, k, i);
     }
     let low = least(count, i);
+    if 1048576 < low {
+        return judge_seen(level, count, k, i);
+    }
     let t = quick_buckets(level, count, low, most(count, i));
-    if is_enough(t, level[1], k, low) {
+    if is_enough(t, level[1], k) {
         return Verdict {
             weight: long(t.sum),
             sound: true,

@@ -3,7 +3,7 @@
 use mathlib.Core.Bool.{true, false}
 use mathlib.Core.Path.{_≡_, refl, sym, ap, _∙_}
 use mathlib.Core.List.{List, [], _++_}
-use Prim.Native.Nat.{ℕ, _+_, _*_, _≤_, _<_}
+use Prim.Native.Nat.{ℕ, _*_, _≤_, _<_}
 use native.Mathlib.Omega.{arith}
 use lib.ListN.{length, take, drop, length-drop}
 use lib.Seq.{drop-append-add, drop-drop}
@@ -25,8 +25,8 @@ use Rattle.laws.specs.Proper.{Proper}
 use Rattle.laws.specs.Halves.{total-decode}
 use Rattle.laws.specs.BookWords.{limits-within, soundHead-limits, length-blockPart}
 use Rattle.laws.specs.Parts.{allFrom-elim, upFrom-cong, replicate-upFrom}
-use Rattle.laws.specs.Refusals.{settle-accepted, settle-refused, AcceptedClock, accepted-clock, AcceptedDelivery, accepted-delivery, AcceptedQuery, accepted-query}
-use Rattle.judge.specs.Judge.{firstRefusal, numberOf-pos, Open, open-size, open-proper}
+use Rattle.laws.specs.Refusals.{numberOf-pos, settle-accepted, settle-refused, AcceptedClock, accepted-clock, AcceptedDelivery, accepted-delivery, AcceptedQuery, accepted-query}
+use Rattle.judge.specs.Judge.{firstRefusal, Open, open-size, open-proper}
 use Rattle.judge.specs.Part.{InBook}
 use Rattle.summary.specs.Sweeps.{AllSound, emptied, advanced}
 use Rattle.summary.specs.Fill.{Takes}

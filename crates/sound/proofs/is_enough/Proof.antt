@@ -19,21 +19,16 @@ both-requires-3 c κs = search needs
 both-requires-4 : tie.Need-both-requires-4
 both-requires-4 c κs = search needs
 
-both-requires-5 : tie.Need-both-requires-5
-both-requires-5 c κs = search needs
-
 returns : tie.Need-returns
 unfolding enough
 returns c =
     let b = c .before .before .before in
-    let s = b .before .before .before .before in
     rw (
-      c .both5 .ensures,
-      c .before .both4 .ensures,
-      c .before .before .both3 .ensures,
-      b .both2 .ensures,
-      s .both .ensures,
-      s .before .before .power .ensures,
+      c .both4 .ensures,
+      c .before .both3 .ensures,
+      c .before .before .both2 .ensures,
+      b .both .ensures,
+      b .before .before .before .before .before .power .ensures,
     )
 
 pub is-enough-spec : {M : Type 1} → statement M
@@ -45,5 +40,4 @@ is-enough-spec =
     both-requires-2
     both-requires-3
     both-requires-4
-    both-requires-5
     returns)

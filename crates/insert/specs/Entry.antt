@@ -51,6 +51,10 @@ module _ {s : Shape} {i x v : ℕ} {ws : List ℕ} (o : Open s i x v ws) where
   pub small : x < 2 ^ 20
   small = omega (arith, o .inside, pow-mono {i = s .k} {j = 20} (o .proper .limits .high-k))
 
+  -- the total with v fits a word
+  pub total-fits : o .total + v < 2 ^ 32
+  total-fits = omega (arith, o .room, pow-mono {i = s .m} {j = 24} (o .proper .limits .high-m))
+
 -- the slot j at which x falls, where x is not below F
 pub record Found (s : Shape) (i x v : ℕ) (ws : List ℕ) (j : ℕ) : Type 0 where
   pub opened : Open s i x v ws
@@ -82,7 +86,7 @@ module _ {s : Shape} {i x v : ℕ} {ws : List ℕ} {j : ℕ} (e : Found s i x v 
   fits : (b : Bucket) (after : List Bucket) → bs ≡ before ++ b ∷ after → b .weight + v < 2 ^ 32
   fits b after same =
       let o = e .opened in
-      omega (arith, ap weightOf same, weight-part before b after, sound o .within, o .room, pow-mono {i = s .m} {j = 24} (o .proper .limits .high-m))
+      omega (arith, ap weightOf same, weight-part before b after, sound o .within, total-fits o)
 
 -- ---- a level from 1
 

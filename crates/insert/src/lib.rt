@@ -1,6 +1,7 @@
 // Writing one level of a histogram, on its part of the words.
 use scan::find;
 use shape::Shape;
+use words::long;
 use words::power;
 use words::wide;
 ghost use mathlib.Core.Bool.{cond};
@@ -55,13 +56,13 @@ fn put_slot(level: &mut [u32], at: usize, offset: u32, width: u32, weight: u32)
 }
 
 // The bucket of slot j gains v.
-fn gain(level: &mut [u32], j: usize, v: u32)
+fn gain(level: &mut [u32], j: usize, v: u64)
     requires { ⌜ (5 + 3 * j ≤ length (now level)) × (slot (now level) j .weight + v < 2 ^ 32) ⌝ }
     ensures { λ _. ⌜ now (level .exit) ≡ set (now (level .entry)) (2 + 3 * j + 2) (slot (now (level .entry)) j .weight + v) ⌝ }
 {
     let at = 2 + 3 * j;
-    let weight = level[at + 2];
-    level[at + 2] = weight + v;
+    let weight = long(level[at + 2]);
+    level[at + 2] = (weight + v) as u32;
 }
 
 // Puts a bucket in at slot j of `count`: the slots from j on move one up.
@@ -136,7 +137,7 @@ fn split_at(level: &mut [u32], n: usize, i: u8, j: usize, half: u32) -> usize
 }
 
 // Whether a bucket of this length stays whole at this weight: one that is full is split.
-fn stays_whole(width: u32, weight: u32, full: u32) -> bool
+fn stays_whole(width: u32, weight: u64, full: u64) -> bool
     ensures { λ r. ⌜ Whole width weight full r ⌝ }
 {
     if width <= 1 {
@@ -147,22 +148,22 @@ fn stays_whole(width: u32, weight: u32, full: u32) -> bool
 
 // Level i from 1: pours v at offset x into the bucket of slot j, which covers x. Once that is full it is split, and the rest goes
 // into the half that covers x, or is ignored where that half was given up.
-fn pour(level: &mut [u32], n: usize, i: u8, x: u32, v: u32, j: usize)
+fn pour(level: &mut [u32], n: usize, i: u8, x: u32, v: u64, j: usize)
     requires { ⌜ Ready n i x v j (now level) ⌝ }
     ensures { λ _. ⌜ now (level .exit) ≡ encodeLevel n (insert n i x v (decodeLevel (now (level .entry)))) ⌝ }
 {
     let at = 2 + 3 * j;
     let width = level[at + 1];
-    let weight = level[at + 2];
-    let full = 2 * power(i);
-    if stays_whole(width, weight + v, full) {
+    let weight = long(level[at + 2]) + v;
+    let full = 2 * long(power(i));
+    if stays_whole(width, weight, full) {
         gain(level, j, v);
         return;
     }
     let half = width / 2;
     let middle = level[at] + half;
     let up = split_at(level, n, i, j, half);
-    let rest = weight + v - full;
+    let rest = weight - full;
     if middle <= x {
         pour(level, n, i, x, rest, up);
         return;
@@ -185,7 +186,7 @@ fn is_at(level: &[u32], j: usize, x: u32) -> bool
 }
 
 // Level 0: the bucket of offset x gains v, or one of weight v is made in its place.
-fn insert_single(level: &mut [u32], s: Shape, x: u32, v: u32)
+fn insert_single(level: &mut [u32], s: Shape, x: u32, v: u64)
     requires { ⌜ Open s 0 x v (now level) × (getD (now level) 1 0 ≤ x) ⌝ }
     ensures { λ _. ⌜ now (level .exit) ≡ encodeLevel (s .n) (insert (s .n) 0 x v (decodeLevel (now (level .entry)))) ⌝ }
 {
@@ -194,11 +195,11 @@ fn insert_single(level: &mut [u32], s: Shape, x: u32, v: u32)
         gain(level, j, v);
         return;
     }
-    put_at(level, s.n as usize, 0, j, x, 1, v);
+    put_at(level, s.n as usize, 0, j, x, 1, v as u32);
 }
 
 // v decilitres at offset x into level i; below F they are ignored.
-pub fn insert(level: &mut [u32], s: Shape, i: u8, x: u32, v: u32)
+pub fn insert(level: &mut [u32], s: Shape, i: u8, x: u32, v: u64)
     requires { ⌜ Open s i x v (now level) ⌝ }
     ensures { λ _. ⌜ now (level .exit) ≡ encodeLevel (s .n) (insert (s .n) i x v (decodeLevel (now (level .entry)))) ⌝ }
 {

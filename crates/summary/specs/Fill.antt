@@ -1,9 +1,10 @@
 -- What a delivery into a block asks, and what each level is then asked. Rests on the delivery as writes of levels.
-use mathlib.Core.Path.{_≡_}
+use mathlib.Core.Path.{_≡_, ap}
 use mathlib.Core.List.{List}
 use Prim.Native.Nat.{ℕ, suc, _+_, _%_, _^_, _≤_, _<_}
 use native.Mathlib.Omega.{arith}
 use lib.ListN.{getD}
+use lib.Pow.{pow-mono}
 use Rattle.shape.specs.declared.Shape.{Shape}
 use Rattle.model.specs.Level.{insert}
 use Rattle.model.specs.Block.{interval, offsetOf}
@@ -24,6 +25,11 @@ pub record Fills (s : Shape) (stamp parity x v : ℕ) (ws : List ℕ) : Type 0 w
   pub takes : Takes s stamp v ws
   pub half : parity ≡ interval s stamp % 2
   pub place : x ≡ offsetOf s stamp
+
+-- the total with the volume fits a word
+pub total-fits : {s : Shape} {stamp parity x v : ℕ} {ws : List ℕ} → Fills s stamp parity x v ws → getD ws parity 0 + v < 2 ^ 32
+total-fits {s} {ws} f =
+    omega (arith, ap (λ (z : ℕ). getD ws z 0) (f .half), f .takes .room, pow-mono {i = s .m} {j = 24} (f .takes .whole .proper .limits .high-m))
 
 module _ (s : Shape) (stamp parity x v : ℕ) (ws : List ℕ) (f : Fills s stamp parity x v ws) (i : ℕ) (low : i ≤ s .last) where
   abbrev t : Takes s stamp v ws

@@ -1,5 +1,6 @@
 // A delivery into one block, level by level, each handed on as that part of the block.
 use shape::Shape;
+use words::long;
 ghost use mathlib.Core.Path.{_≡_};
 ghost use Rattle.model.specs.Level.{insert};
 ghost use Rattle.model.specs.Block.{deliver};
@@ -10,7 +11,7 @@ ghost use Rattle.block.specs.Steps.{LevelIn};
 ghost use Rattle.summary.specs.Fill.{Takes, Fills};
 
 // Inserts into one level in its place.
-fn insert_at(block: &mut [u32], s: Shape, parity: u8, i: u8, x: u32, v: u32)
+fn insert_at(block: &mut [u32], s: Shape, parity: u8, i: u8, x: u32, v: u64)
     requires { ⌜ LevelIn s parity i (now block) × Open s i x v (levelPart s parity i (now block)) ⌝ }
     ensures { λ _. ⌜ now (block .exit) ≡ withLevel s parity i (encodeLevel (s .n) (insert (s .n) i x v (decodeLevel (levelPart s parity i (now (block .entry)))))) (now (block .entry)) ⌝ }
 {
@@ -20,13 +21,13 @@ fn insert_at(block: &mut [u32], s: Shape, parity: u8, i: u8, x: u32, v: u32)
 }
 
 // Raises the total of the half and inserts into each of its levels.
-fn fill(block: &mut [u32], s: Shape, stamp: u32, parity: u8, x: u32, v: u32)
+fn fill(block: &mut [u32], s: Shape, stamp: u32, parity: u8, x: u32, v: u64)
     requires { ⌜ Fills s stamp parity x v (now block) ⌝ }
     ensures { λ _. ⌜ now (block .exit) ≡ encodeBlock s (deliver s stamp v (decodeBlock s (now (block .entry)))) ⌝ }
 {
     let at = parity as usize;
-    let total = block[at] + v;
-    block[at] = total;
+    let total = long(block[at]) + v;
+    block[at] = total as u32;
     let mut i: u8 = 0;
     while i <= s.last {
         insert_at(block, s, parity, i, x, v);
@@ -41,5 +42,5 @@ pub fn deliver_block(block: &mut [u32], s: Shape, stamp: u32, v: u32)
 {
     let parity = stamp::parity(stamp::interval(s, stamp));
     let x = stamp::offset(s, stamp);
-    fill(block, s, stamp, parity, x, v);
+    fill(block, s, stamp, parity, x, long(v));
 }

@@ -6,15 +6,16 @@ use lib.ListN.{getD}
 use borrow.Author.Needs.{needs}
 use borrow.Fn.Kinds.{In}
 use borrow.Fn.PlainCycle.{Measures, is, falls, and}
-use Rattle.model.specs.Words.{slot, encodeLevel}
+use Rattle.model.specs.Words.{encodeLevel}
 use Rattle.insert.specs.Ready.{Cut, filled, onward, next-upper, next-lower, given-up}
 use Rattle.insert.proofs.pour.Reads as pour
 use Rattle.insert.proofs.pour.Kinds as pour-kinds
 use Rattle.insert.proofs.+pour.Lts-pour as pour-lts
 use Rattle.insert.proofs.gain.Reads as gain-reads
-use Rattle.words.proofs.power.Reads as power-reads
 use Rattle.insert.proofs.split_at.Reads as split-at-reads
 use Rattle.insert.proofs.stays_whole.Reads as stays-whole-reads
+use Rattle.words.proofs.long.Reads as long-reads
+use Rattle.words.proofs.power.Reads as power-reads
 use Rattle.insert.proofs.+pour.{statement}
 use Rattle.insert.proofs.+pour.Tie.{close}
 
@@ -28,18 +29,19 @@ abbrev pour-below : ℕ → In 1 pour-kinds.ps
 pour-below t = and 1 pour-kinds.ps (falls 1 pour-kinds.ps _<_ μ-pour t) pour.Pre
 
 abbrev calls : ℕ → pour-lts.Claims
-calls t = (power-reads.Asked, power-reads.Learnt, stays-whole-reads.Asked, stays-whole-reads.Learnt, gain-reads.Asked, gain-reads.Learnt, split-at-reads.Asked, split-at-reads.Learnt, pour-below t, pour.Post)
+calls t = (long-reads.Asked, long-reads.Learnt, power-reads.Asked, power-reads.Learnt, stays-whole-reads.Asked, stays-whole-reads.Learnt, gain-reads.Asked, gain-reads.Learnt, split-at-reads.Asked, split-at-reads.Learnt, pour-below t, pour.Post)
 
 -- what is known after the split
 cut : (t : ℕ) (d : pour-lts.After-split-at (calls t) (pour-at t) pour.Post)
     → let p = d .before .before .before .before .before in
-    let a = p .before .before .before .before .args in
-    Cut (a .n) (a .i) (a .x) (a .v) (a .j) (slot (a .level .now) (a .j) .weight + a .v - 2 * p .power .result) (a .level .now) (d .split-at .last .0) (d .split-at .result)
+    let l = p .before .before in
+    let a = l .before .before .before .before .args in
+    Cut (a .n) (a .i) (a .x) (a .v) (a .j) (l .long .result + a .v - 2 * p .long2 .result) (a .level .now) (d .split-at .last .0) (d .split-at .result)
 cut t d =
     let e = d .before .before .before in
     let goes = e .before .stays-whole .ensures .goes (e .if1 .left) in
     record {
-      ready-was = e .before .before .before .before .before .before .pre .1;
+      ready-was = e .before .before .before .before .before .before .before .before .pre .1;
       long = goes .0;
       full = omega (arith, goes .1);
       split = d .split-at .ensures;
@@ -60,23 +62,29 @@ pour-mul-width t c = search needs
 pour-slice-read-width : (t : ℕ) → pour-lts.Need-slice-read-width (calls t) (pour-at t) pour.Post
 pour-slice-read-width t c = search needs
 
+pour-add-long : (t : ℕ) → pour-lts.Need-add-long (calls t) (pour-at t) pour.Post
+pour-add-long t c = search needs
+
+pour-mul-long : (t : ℕ) → pour-lts.Need-mul-long (calls t) (pour-at t) pour.Post
+pour-mul-long t c = search needs
+
+pour-slice-read-long : (t : ℕ) → pour-lts.Need-slice-read-long (calls t) (pour-at t) pour.Post
+pour-slice-read-long t c = search needs
+
+pour-long-requires : (t : ℕ) → pour-lts.Need-long-requires (calls t) (pour-at t) pour.Post
+pour-long-requires t c κs = search needs
+
 pour-add-weight : (t : ℕ) → pour-lts.Need-add-weight (calls t) (pour-at t) pour.Post
 pour-add-weight t c = search needs
-
-pour-mul-weight : (t : ℕ) → pour-lts.Need-mul-weight (calls t) (pour-at t) pour.Post
-pour-mul-weight t c = search needs
-
-pour-slice-read-weight : (t : ℕ) → pour-lts.Need-slice-read-weight (calls t) (pour-at t) pour.Post
-pour-slice-read-weight t c = search needs
 
 pour-power-requires : (t : ℕ) → pour-lts.Need-power-requires (calls t) (pour-at t) pour.Post
 pour-power-requires t c κs = search needs
 
+pour-long-requires-2 : (t : ℕ) → pour-lts.Need-long-requires-2 (calls t) (pour-at t) pour.Post
+pour-long-requires-2 t c κs = search needs
+
 pour-mul-full : (t : ℕ) → pour-lts.Need-mul-full (calls t) (pour-at t) pour.Post
 pour-mul-full t c = search needs
-
-pour-add-stays-whole : (t : ℕ) → pour-lts.Need-add-stays-whole (calls t) (pour-at t) pour.Post
-pour-add-stays-whole t c = search needs
 
 pour-stays-whole-requires : (t : ℕ) → pour-lts.Need-stays-whole-requires (calls t) (pour-at t) pour.Post
 pour-stays-whole-requires t c κs = search needs
@@ -91,7 +99,7 @@ pour-returns : (t : ℕ) → pour-lts.Need-returns (calls t) (pour-at t) pour.Po
 pour-returns t c =
     let w = c .before .before .before .before .before in
     c .before .before .gain .ensures
-    ∙ filled (w .before .before .before .before .before .pre .1) (λ long. omega (arith, w .stays-whole .ensures .stays (c .before .before .before .before .if1 .taken) long))
+    ∙ filled (w .before .before .before .before .before .before .before .pre .1) (λ long. omega (arith, w .stays-whole .ensures .stays (c .before .before .before .before .if1 .taken) long))
 
 pour-mul-middle : (t : ℕ) → pour-lts.Need-mul-middle (calls t) (pour-at t) pour.Post
 pour-mul-middle t c = search needs
@@ -105,9 +113,6 @@ pour-add-middle t c = search needs
 pour-split-at-requires : (t : ℕ) → pour-lts.Need-split-at-requires (calls t) (pour-at t) pour.Post
 pour-split-at-requires t c κs = search needs
 
-pour-add-rest : (t : ℕ) → pour-lts.Need-add-rest (calls t) (pour-at t) pour.Post
-pour-add-rest t c = search needs
-
 pour-sub-rest : (t : ℕ) → pour-lts.Need-sub-rest (calls t) (pour-at t) pour.Post
 pour-sub-rest t c =
     let e = c .before .before .before .before .before in
@@ -117,7 +122,7 @@ pour-pour-requires : (t : ℕ) → pour-lts.Need-pour-requires (calls t) (pour-a
 pour-pour-requires t c κs =
     let d = c .before .before .before .before in
     let next = next-upper (cut t d) (c .before .if2 .taken) in
-    (omega (arith, next .0, d .before .before .before .before .before .before .before .before .before .pre .0), next .1)
+    (omega (arith, next .0, d .before .before .before .before .before .before .before .before .before .before .before .pre .0), next .1)
 
 pour-same-length-2 : (t : ℕ) → pour-lts.Need-same-length-2 (calls t) (pour-at t) pour.Post
 pour-same-length-2 t c = search needs
@@ -140,7 +145,7 @@ pour-pour-requires-2 : (t : ℕ) → pour-lts.Need-pour-requires-2 (calls t) (po
 pour-pour-requires-2 t c κs =
     let d = c .before .before .before .before .before in
     let next = next-lower (cut t d) (c .before .before .if2 .left) (omega arith) in
-    (omega (arith, next .0, d .before .before .before .before .before .before .before .before .before .pre .0), next .1)
+    (omega (arith, next .0, d .before .before .before .before .before .before .before .before .before .before .before .pre .0), next .1)
 
 pour-same-length-4 : (t : ℕ) → pour-lts.Need-same-length-4 (calls t) (pour-at t) pour.Post
 pour-same-length-4 t c = search needs
@@ -159,12 +164,14 @@ pub +pour-spec : {M : Type 1} → statement M
     (pour-add-width t)
     (pour-mul-width t)
     (pour-slice-read-width t)
+    (pour-add-long t)
+    (pour-mul-long t)
+    (pour-slice-read-long t)
+    (pour-long-requires t)
     (pour-add-weight t)
-    (pour-mul-weight t)
-    (pour-slice-read-weight t)
     (pour-power-requires t)
+    (pour-long-requires-2 t)
     (pour-mul-full t)
-    (pour-add-stays-whole t)
     (pour-stays-whole-requires t)
     (pour-gain-requires t)
     (pour-same-length t)
@@ -173,7 +180,6 @@ pub +pour-spec : {M : Type 1} → statement M
     (pour-slice-read-middle t)
     (pour-add-middle t)
     (pour-split-at-requires t)
-    (pour-add-rest t)
     (pour-sub-rest t)
     (pour-pour-requires t)
     (pour-same-length-2 t)

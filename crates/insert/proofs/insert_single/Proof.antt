@@ -2,7 +2,7 @@
 use mathlib.Core.Path.{_∙_}
 use native.Mathlib.Omega.{arith}
 use borrow.Author.Needs.{needs}
-use Rattle.insert.specs.Entry.{searchable, small, found, found-takes, gains, makes}
+use Rattle.insert.specs.Entry.{searchable, small, total-fits, found, found-takes, gains, makes}
 use Rattle.insert.proofs.insert_single.Statement.{statement}
 use Rattle.insert.proofs.insert_single.Tie as tie
 
@@ -38,6 +38,9 @@ returns c =
 cast-put-at : tie.Need-cast-put-at
 cast-put-at c = search needs
 
+cast-put-at-2 : tie.Need-cast-put-at-2
+cast-put-at-2 c = omega (arith, total-fits (c .before .before .before .before .before .before .before .before .pre .0))
+
 put-at-requires : tie.Need-put-at-requires
 put-at-requires c κs =
     let d = c .before .before .before .before .before in
@@ -64,6 +67,7 @@ insert-single-spec =
     same-length
     returns
     cast-put-at
+    cast-put-at-2
     put-at-requires
     same-length-2
     returns-2)

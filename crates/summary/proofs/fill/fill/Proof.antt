@@ -1,15 +1,13 @@
 -- After each turn one level more has the volume, and the next is as it was.
 use borrow.Author.Needs.{needs}
-use mathlib.Core.Path.{_≡_, refl, ap, _∙_}
+use mathlib.Core.Path.{_≡_, refl, _∙_}
 use mathlib.Core.List.{List}
-use Prim.Native.Nat.{ℕ, suc, _+_, _-_, _%_, _≤_}
+use Prim.Native.Nat.{ℕ, suc, _+_, _-_, _≤_}
 use native.Mathlib.Numerals.{add-one}
 use lib.ListN.{length, getD, set, length-set}
-use lib.Pow.{pow-mono}
-use Rattle.model.specs.Block.{interval}
 use Rattle.laws.specs.BlockWords.{blockWords-halves}
 use Rattle.laws.specs.Delivery.{delivering, delivering-all}
-use Rattle.summary.specs.Fill.{Fills, level-in, level-takes, level-filled}
+use Rattle.summary.specs.Fill.{Fills, total-fits, level-in, level-takes, level-filled}
 use native.Mathlib.Omega.{arith}
 use Rattle.summary.proofs.fill.fill.Statement.{statement}
 use Rattle.summary.proofs.fill.fill.Tie as tie
@@ -22,27 +20,29 @@ Inv-loop block₀ s stamp parity x v at total i₀ block i =
 abbrev μ-loop : tie.MeasureT-loop
 μ-loop block₀ s stamp parity x v at total i₀ block i = suc (s .last) - i
 
-mul-total : tie.Need-mul-total Inv-loop μ-loop
-mul-total c = search needs
+mul-long : tie.Need-mul-long Inv-loop μ-loop
+mul-long c = search needs
 
-slice-read-total : tie.Need-slice-read-total Inv-loop μ-loop
-slice-read-total c =
+slice-read-long : tie.Need-slice-read-long Inv-loop μ-loop
+slice-read-long c =
     let d = c .before .before in
     omega (arith, blockWords-halves (d .args .s), d .pre .takes .whole .size, d .pre .half)
 
+long-requires : tie.Need-long-requires Inv-loop μ-loop
+long-requires c κs = search needs
+
 add-total : tie.Need-add-total Inv-loop μ-loop
-add-total c =
-    let d = c .before .before in
-    let ws = d .args .block .now in
-    let same : getD ws (d .args .parity) 0 ≡ getD ws (interval (d .args .s) (d .args .stamp) % 2) 0 = ap (λ (z : ℕ). getD ws z 0) (d .pre .half) in
-    omega (arith, d .pre .takes .room, pow-mono (d .pre .takes .whole .proper .limits .high-m))
+add-total c = omega (arith, total-fits (c .before .before .before .pre), c .long .ensures .0)
+
+cast-block : tie.Need-cast-block Inv-loop μ-loop
+cast-block c = omega (arith, total-fits (c .before .before .before .pre), c .long .ensures .0)
 
 mul-block : tie.Need-mul-block Inv-loop μ-loop
 mul-block c = search needs
 
 slice-write-block : tie.Need-slice-write-block Inv-loop μ-loop
 slice-write-block c =
-    let d = c .before .before in
+    let d = c .before .before .before in
     omega (arith, blockWords-halves (d .args .s), d .pre .takes .whole .size, d .pre .half)
 
 loop-holds : tie.Need-loop-holds Inv-loop μ-loop
@@ -51,9 +51,10 @@ loop-holds c = (omega arith, refl, λ ws e f. e ∙ rw (f .half))
 insert-at-requires : tie.Need-insert-at-requires Inv-loop μ-loop
 insert-at-requires c κs =
     let l = c .before .before .before .loop in
-    let d = c .before .before .before .before .before .before in
+    let w = c .before .before .before .before in
+    let d = w .before .before .before in
     let a = d .args in
-    let e = l .inv .2 (a .block .now) refl (d .pre) in
+    let e = l .inv .2 (a .block .now) (rw (w .long .ensures .0)) (d .pre) in
     let low : l .i ≤ a .s .last = omega (arith, c .before .if1 .taken) in (
       rw e (level-in (a .s) (a .stamp) (a .parity) (a .x) (a .v) (a .block .now) (d .pre) (l .i) low),
       rw e (level-takes (a .s) (a .stamp) (a .parity) (a .x) (a .v) (a .block .now) (d .pre) (l .i) low),
@@ -68,7 +69,7 @@ loop-less c = search needs
 loop-again : tie.Need-loop-again Inv-loop μ-loop
 loop-again c =
     let l = c .before .before .before .before .before .before .loop in
-    let a = c .before .before .before .before .before .before .before .before .before .args in
+    let a = c .before .before .before .before .before .before .before .before .before .before .args in
     let low : l .i ≤ a .s .last = omega (arith, c .before .before .before .before .if1 .taken) in (
       omega arith,
       c .before .before .insert-at .kept .0 ∙ l .inv .1,
@@ -78,16 +79,18 @@ loop-again c =
 
 same-length : tie.Need-same-length Inv-loop μ-loop
 same-length c =
-    let a = c .before .before .before .before .before .args in
-    c .before .before .loop .inv .1 ∙ length-set (a .block .now) (a .parity) (getD (a .block .now) (a .parity) 0 + a .v)
+    let w = c .before .before .before in
+    let a = w .before .before .before .args in
+    c .before .before .loop .inv .1 ∙ length-set (a .block .now) (a .parity) (w .long .result + a .v)
 
 returns : tie.Need-returns Inv-loop μ-loop
 returns c =
     let l = c .before .before .loop in
-    let d = c .before .before .before .before .before in
+    let w = c .before .before .before in
+    let d = w .before .before .before in
     let a = d .args in
     let all : l .i ≡ suc (a .s .last) = omega arith in
-    rw all at (l .inv .2 (a .block .now) refl (d .pre)) ∙ delivering-all (a .s) (a .stamp) (a .v) (a .block .now) (d .pre .takes .whole)
+    rw all at (l .inv .2 (a .block .now) (rw (w .long .ensures .0)) (d .pre)) ∙ delivering-all (a .s) (a .stamp) (a .v) (a .block .now) (d .pre .takes .whole)
 
 pub fill-spec : {M : Type 1} → statement M
 fill-spec =
@@ -95,9 +98,11 @@ fill-spec =
     (tie.spec
     Inv-loop
     μ-loop
-    mul-total
-    slice-read-total
+    mul-long
+    slice-read-long
+    long-requires
     add-total
+    cast-block
     mul-block
     slice-write-block
     loop-holds

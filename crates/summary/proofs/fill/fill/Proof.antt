@@ -1,6 +1,6 @@
 -- After each turn one level more has the volume, and the next is as it was.
 use borrow.Author.Needs.{needs}
-use mathlib.Core.Path.{_≡_, refl, _∙_}
+use mathlib.Core.Path.{_≡_, refl, ap, _∙_}
 use mathlib.Core.List.{List}
 use Prim.Native.Nat.{ℕ, suc, _+_, _-_, _≤_}
 use native.Mathlib.Numerals.{add-one}
@@ -54,7 +54,7 @@ insert-at-requires c κs =
     let w = c .before .before .before .before in
     let d = w .before .before .before in
     let a = d .args in
-    let e = l .inv .2 (a .block .now) (rw (w .long .ensures .0)) (d .pre) in
+    let e = l .inv .2 (a .block .now) (ap (λ (z : ℕ). set (a .block .now) (a .parity) (z + a .v)) (w .long .ensures .0)) (d .pre) in
     let low : l .i ≤ a .s .last = omega (arith, c .before .if1 .taken) in (
       rw e (level-in (a .s) (a .stamp) (a .parity) (a .x) (a .v) (a .block .now) (d .pre) (l .i) low),
       rw e (level-takes (a .s) (a .stamp) (a .parity) (a .x) (a .v) (a .block .now) (d .pre) (l .i) low),
@@ -90,7 +90,7 @@ returns c =
     let d = w .before .before .before in
     let a = d .args in
     let all : l .i ≡ suc (a .s .last) = omega arith in
-    rw all at (l .inv .2 (a .block .now) (rw (w .long .ensures .0)) (d .pre)) ∙ delivering-all (a .s) (a .stamp) (a .v) (a .block .now) (d .pre .takes .whole)
+    rw all at (l .inv .2 (a .block .now) (ap (λ (z : ℕ). set (a .block .now) (a .parity) (z + a .v)) (w .long .ensures .0)) (d .pre)) ∙ delivering-all (a .s) (a .stamp) (a .v) (a .block .now) (d .pre .takes .whole)
 
 pub fill-spec : {M : Type 1} → statement M
 fill-spec =

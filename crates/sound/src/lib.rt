@@ -202,8 +202,8 @@ fn is_enough(t: Quick, first: u32, k: u8) -> bool
     )
 }
 
-// The weight of a level's buckets, and whether they are sound: by the quick pass, where that is enough. It is not tried where a sum of
-// the least weights may pass 2 ^ 32.
+// The weight of a level's buckets, and whether they are sound: by the quick pass, where that is enough. It is not tried where the least
+// weight is above 2 ^ 20, since the sum of 1024 weights that pass its tests may then reach 2 ^ 32.
 fn judge(level: &[u32], count: usize, k: u8, i: u8) -> Verdict
     requires { ⌜ (2 + 3 * count ≤ length (now level)) × (count ≤ 1024) × (k ≤ 20) × (i ≤ 24) ⌝ }
     ensures { λ r. ⌜ Judged k i (getD (now (level .entry)) 1 0) (slots (now (level .entry)) 0 count) r ⌝ }

@@ -47,7 +47,7 @@ fn number(refused: Refused) -> u32 {
 pub const READS: [fn(&[u32]) -> u32; 2] = [sum, sum_by_four_vectors];
 
 /// (c): every word once, added modulo 2^32. The compiler makes a small loop of it, two vectors at a
-/// time, whose speed depends on where the linker puts it.
+/// time, whose speed depends on where the linker puts it and on what else the core does.
 #[inline(never)]
 fn sum(words: &[u32]) -> u32 {
     words.iter().fold(0, |sum, word| sum.wrapping_add(*word))

@@ -16,29 +16,19 @@ pub const TIMED: usize = CANDIDATES.len() + READS.len();
 /// time after which another process may get the processor.
 const WORDS_PER_BATCH: usize = 1 << 18;
 
-/// The places that a word can have in a vector of 16 bytes. A borrowed slice of words may start at any
-/// of them, so the rounds take turns; a vector that is read from another place than the first may span
-/// two cache lines.
-const PLACES: usize = 4;
-
 /// Microseconds of one call, round by round: for the static library, (a), (b), (c) and (c4).
 pub struct Times {
     rounds: Vec<[f64; TIMED]>,
 }
 
 impl Times {
-    /// Of the rounds of each place only the faster half counts: in the others something else had the
-    /// processor or its other half.
-    fn new(places: [Vec<[f64; TIMED]>; PLACES]) -> Times {
+    /// Of these rounds only the faster half counts: in the others something else had the processor or
+    /// its other half.
+    fn new(mut rounds: Vec<[f64; TIMED]>) -> Times {
         let whole = |round: &[f64; TIMED]| round.iter().sum::<f64>();
-        let faster = places.map(|mut rounds| {
-            rounds.sort_by(|one, other| whole(one).total_cmp(&whole(other)));
-            rounds.truncate(rounds.len().div_ceil(2));
-            rounds
-        });
-        Times {
-            rounds: faster.concat(),
-        }
+        rounds.sort_by(|one, other| whole(one).total_cmp(&whole(other)));
+        rounds.truncate(rounds.len().div_ceil(2));
+        Times { rounds }
     }
 
     /// The median time of one candidate.
@@ -71,14 +61,14 @@ pub struct Row<'a> {
 /// Times rows side by side, each once a round, so that what else the machine does hits all alike.
 pub fn measure(rows: &[Row], rounds: usize) -> Vec<Times> {
     let mut loads: Vec<_> = rows.iter().map(|row| Load::new(row.shape, 2)).collect();
-    let mut times = vec![<[Vec<_>; PLACES]>::default(); rows.len()];
+    let mut times = vec![Vec::new(); rows.len()];
     let mut words = Words::default();
     for round in 0..=rounds {
         for ((row, load), times) in rows.iter().zip(&mut loads).zip(&mut times) {
             let time = words.round(row, load, round);
             // The first round only warms up.
             if round > 0 {
-                times[round % PLACES].push(time);
+                times.push(time);
             }
         }
     }
@@ -88,7 +78,7 @@ pub fn measure(rows: &[Row], rounds: usize) -> Vec<Times> {
 /// The words on which the candidates work, and what the first of them left.
 #[derive(Default)]
 struct Words {
-    buffer: Vec<u32>,
+    book: Vec<u32>,
     expected: Vec<u32>,
 }
 
@@ -101,24 +91,21 @@ impl Words {
         let inspected = Batch::inspected(kind, shape, 0).len();
         let calls = (WORDS_PER_BATCH / inspected).clamp(2, 256) as u32;
         let batch = Batch::new(kind, shape, grown[4], load, calls);
-        let place = round % PLACES;
         let mut sums = [0; CANDIDATES.len()];
         let mut time = [0.0; TIMED];
         self.expected.clear();
         for turn in 0..TIMED {
             // Each comes first as often as any other.
             let timed = (turn + round) % TIMED;
-            self.buffer.clear();
-            self.buffer.resize(place, 0);
-            self.buffer.extend_from_slice(grown);
-            let book = &mut self.buffer[place..];
+            self.book.clear();
+            self.book.extend_from_slice(grown);
             let start = Instant::now();
             if let Some(candidate) = CANDIDATES.get(timed) {
-                sums[timed] = batch.perform(candidate, book);
+                sums[timed] = batch.perform(candidate, &mut self.book);
             } else {
                 let read = READS[timed - CANDIDATES.len()];
                 for number in 0..batch.len() as u32 {
-                    let words = &book[Batch::inspected(kind, shape, number)];
+                    let words = &self.book[Batch::inspected(kind, shape, number)];
                     black_box(read(black_box(words)));
                 }
             }
@@ -126,9 +113,9 @@ impl Words {
             time[timed] = elapsed.as_secs_f64() * 1e6 / batch.len() as f64;
             if timed < CANDIDATES.len() {
                 if self.expected.is_empty() {
-                    self.expected.extend_from_slice(book);
+                    self.expected.extend_from_slice(&self.book);
                 }
-                let equal = book == self.expected;
+                let equal = self.book == self.expected;
                 assert!(equal, "the candidates leave different words");
             }
         }
@@ -139,15 +126,13 @@ impl Words {
 
 #[cfg(test)]
 mod tests {
-    use super::{Times, PLACES, TIMED};
+    use super::{Times, TIMED};
 
     #[test]
     fn the_faster_half_counts() {
         let round =
             |time: f64| std::array::from_fn::<_, TIMED, _>(|timed| time * (1 + timed) as f64);
-        let mut places = <[Vec<_>; PLACES]>::default();
-        places[1] = [9.0, 1.0, 3.0, 8.0, 2.0].map(round).to_vec();
-        let times = Times::new(places);
+        let times = Times::new([9.0, 1.0, 3.0, 8.0, 2.0].map(round).to_vec());
         assert_eq!(times.median(0), 2.0);
         assert_eq!(times.median(2), 6.0);
         assert_eq!(times.ratio(3, 1), 2.0);

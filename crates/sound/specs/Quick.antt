@@ -39,10 +39,10 @@ quickAll least most t (b ∷ bs) = quickAll least most (quickBucket least most t
 abbrev pub marked : Quick → Quick  -- what is seen so far has ended at a number that must be within reach
 marked t = record { end = t .end; faults = t .faults; reach = bitOr (t .reach) (t .end); extra = t .extra; sum = t .sum }
 
--- all buckets, with a mark after every fourth; `left` more come before the next of those
+-- all buckets, with a mark after every fifth; `left` more come before the next of those
 abbrev pub quickRun : ℕ → ℕ → ℕ → Quick → List Bucket → Quick
 quickRun least most left t [] = t
-quickRun least most zero t (b ∷ bs) = quickRun least most 3 (marked (quickBucket least most t b)) bs
+quickRun least most zero t (b ∷ bs) = quickRun least most 4 (marked (quickBucket least most t b)) bs
 quickRun least most (suc left) t (b ∷ bs) = quickRun least most left (quickBucket least most t b) bs
 
 abbrev pub firstWidth : List Bucket → ℕ  -- the length of the first bucket
@@ -50,7 +50,7 @@ firstWidth [] = 0
 firstWidth (b ∷ bs) = b .width
 
 abbrev pub quickWhole : ℕ → ℕ → ℕ → List Bucket → Quick  -- a level's buckets, of which the first is to start at `first`
-quickWhole least most first bs = quickRun least most 3 (fresh first (firstWidth bs)) bs
+quickWhole least most first bs = quickRun least most 4 (fresh first (firstWidth bs)) bs
 
 abbrev pub mostOf : ℕ → ℕ → ℕ  -- what the weight of a bucket longer than 1, of `count` buckets, has at most above the least one
 mostOf count i = cond (leb 2 count) (2 ^ i - 1) (2 ^ suc i - 1)

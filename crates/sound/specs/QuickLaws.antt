@@ -24,13 +24,11 @@ use Rattle.sound.specs.declared.Quick.{Quick}
 
 -- ---- where the code starts and ends
 
--- fewer than four buckets have no mark
-pub few-left : (least most : ℕ) (t : Quick) (bs : List Bucket) → length bs ≤ 3 → quickAll least most t bs ≡ quickRun least most 3 t bs
-few-left least most t [] h = refl
-few-left least most t (a ∷ []) h = refl
-few-left least most t (a ∷ (b ∷ [])) h = refl
-few-left least most t (a ∷ (b ∷ (c ∷ []))) h = refl
-few-left least most t (a ∷ (b ∷ (c ∷ (d ∷ bs)))) h = absurd (omega arith)
+-- buckets that come before the next mark have none
+pub few-left : (least most left : ℕ) (t : Quick) (bs : List Bucket) → length bs ≤ left → quickAll least most t bs ≡ quickRun least most left t bs
+few-left least most left t [] h = refl
+few-left least most zero t (b ∷ bs) h = absurd (omega arith)
+few-left least most (suc left) t (b ∷ bs) h = few-left least most left (quickBucket least most t b) bs (omega arith)
 
 -- the word that has the first bucket's length
 pub first-width : (ws : List ℕ) (c : ℕ) → 0 < c → firstWidth (slots ws 0 c) ≡ getD ws 3 0
@@ -163,7 +161,7 @@ module _ (k i count : ℕ) (few : k ≤ 20) (low : i ≤ 24) (small : leastOf co
     same : quick t b .end ≡ b .offset + b .width
     most : b .offset + b .width ≤ 2 ^ suc m
 
-  length-near : (m : ℕ) (t : Quick) (b : Bucket) (bs : List Bucket) → 21 ≤ m → m ≤ 24 → t .end ≤ 2 ^ m → Leads (t .end) (b ∷ bs) → Read t b
+  length-near : (m : ℕ) (t : Quick) (b : Bucket) (bs : List Bucket) → 21 ≤ m → m ≤ 25 → t .end ≤ 2 ^ m → Leads (t .end) (b ∷ bs) → Read t b
       → (0 < b .width) × (b .width ≤ 2 ^ m)
   length-near m t b bs lo hi near leads r =
       ⊎-elim
@@ -175,7 +173,7 @@ module _ (k i count : ℕ) (few : k ≤ 20) (low : i ≤ 24) (small : leastOf co
       (some, omega (arith, not-longer (b .offset) (b .width) o some (r .own) (r .multiple), r .at, near)))
       (lt-or-ge (t .end) 1)
 
-  next : (m : ℕ) (t : Quick) (b : Bucket) (bs : List Bucket) → 21 ≤ m → m ≤ 24 → t .end ≤ 2 ^ m → Leads (t .end) (b ∷ bs) → Read t b → Next m t b
+  next : (m : ℕ) (t : Quick) (b : Bucket) (bs : List Bucket) → 21 ≤ m → m ≤ 25 → t .end ≤ 2 ^ m → Leads (t .end) (b ∷ bs) → Read t b → Next m t b
   next m t b bs lo hi near leads r =
       let w = length-near m t b bs lo hi near leads r in
       let bound : b .offset + b .width ≤ 2 ^ suc m = omega (arith, r .at, near, w .1, pow-suc 2 m) in
@@ -212,7 +210,7 @@ module _ (k i count : ℕ) (few : k ≤ 20) (low : i ≤ 24) (small : leastOf co
   -- where all passed, those before had passed
   run-before : (left : ℕ) (t : Quick) (bs : List Bucket) → Enough k (run left t bs) → Enough k t
   run-before left t [] p = p
-  run-before zero t (b ∷ bs) p = quick-read t b (mark-inside k (quick t b) few (run-before 3 (marked (quick t b)) bs p) .0) .before
+  run-before zero t (b ∷ bs) p = quick-read t b (mark-inside k (quick t b) few (run-before 4 (marked (quick t b)) bs p) .0) .before
   run-before (suc left) t (b ∷ bs) p = quick-read t b (run-before left (quick t b) bs p) .before
 
   -- those after a bucket that passed end at 2 ^ k, so it ends before that
@@ -225,16 +223,16 @@ module _ (k i count : ℕ) (few : k ≤ 20) (low : i ≤ 24) (small : leastOf co
   past-start : (m : ℕ) (t : Quick) (b : Bucket) (bs : List Bucket) → Next m t b → Leads (quick t b .end) bs
   past-start m t b bs n e = absurd (omega (arith, e, n .same, n .some))
 
-  -- an end doubles at most from bucket to bucket, and after every fourth it is within 2 ^ 21
-  run-linked : (left m : ℕ) (t : Quick) (bs : List Bucket) → m + left ≡ 24 → 21 ≤ m → t .end ≤ 2 ^ m → Leads (t .end) bs → Enough k (run left t bs)
+  -- an end doubles at most from bucket to bucket, and after every fifth it is within 2 ^ 21
+  run-linked : (left m : ℕ) (t : Quick) (bs : List Bucket) → m + left ≡ 25 → 21 ≤ m → t .end ≤ 2 ^ m → Leads (t .end) bs → Enough k (run left t bs)
       → run left t bs .end ≡ 2 ^ k → Links (t .end) bs
   run-linked left m t [] sum lo near leads p e = (e, omega arith)
   run-linked zero m t (b ∷ bs) sum lo near leads p e =
       let u = quick t b in
-      let q = mark-inside k u few (run-before 3 (marked u) bs p) in
+      let q = mark-inside k u few (run-before 4 (marked u) bs p) in
       let r = quick-read t b (q .0) in
       let n = next m t b bs lo (omega (arith, sum)) near leads r in
-      linked m t b bs r n (run-linked 3 21 (marked u) bs refl (omega arith) (q .1) (past-start m t b bs n) p e)
+      linked m t b bs r n (run-linked 4 21 (marked u) bs refl (omega arith) (q .1) (past-start m t b bs n) p e)
   run-linked (suc left) m t (b ∷ bs) sum lo near leads p e =
       let u = quick t b in
       let r = quick-read t b (run-before left u bs p) in
@@ -253,7 +251,7 @@ module _ (least most : ℕ) where
   run-sum left t [] h = omega arith
   run-sum zero t (b ∷ bs) h = let u = quickBucket least most t b in
       let s = sum-next t b in
-      omega (arith, run-sum 3 (marked u) bs (omega (arith, s)), s)
+      omega (arith, run-sum 4 (marked u) bs (omega (arith, s)), s)
   run-sum (suc left) t (b ∷ bs) h = let u = quickBucket least most t b in
       let s = sum-next t b in
       omega (arith, run-sum left u bs (omega (arith, s)), s)
@@ -289,9 +287,9 @@ module _ (k first : ℕ) (few : k ≤ 20) where
       let t = fresh first (b .width) in
       let f = enough-tests k first _ .0 (e .seen) in
       let near : first ≤ 2 ^ 21 = omega (arith, f .0, pow-mono few) in
-      let begun = run-before k (suc j) count few (e .low) (e .small) 3 t (b ∷ bs) (f .1) in
+      let begun = run-before k (suc j) count few (e .low) (e .small) 4 t (b ∷ bs) (f .1) in
       let l = reached 21 (b .width) (omega arith) (omega (arith, begun .inside, pow-mono few)) in
-      let c = run-linked k (suc j) count few (e .low) (e .small) 3 21 t (b ∷ bs) refl (omega arith) near (λ _. (l .some, l .most)) (f .1) (f .2) in
+      let c = run-linked k (suc j) count few (e .low) (e .small) 4 21 t (b ∷ bs) refl (omega arith) near (λ _. (l .some, l .most)) (f .1) (f .2) in
       ((omega arith, c .0), c .1)
 
   pub enough-sound : (i : ℕ) (bs : List Bucket) → SeenEnough k i first bs → soundBuckets k i first bs ≡ true
@@ -300,4 +298,4 @@ module _ (k first : ℕ) (few : k ≤ 20) where
   pub enough-weight : (i : ℕ) (bs : List Bucket) → length bs ≤ 1024 → SeenEnough k i first bs
       → quickWhole (leastOf (length bs) i) (mostOf (length bs) i) first bs .sum ≡ weightOf bs
   enough-weight i bs small e =
-      omega (arith, run-sum (leastOf (length bs) i) (mostOf (length bs) i) 3 (fresh first (firstWidth bs)) bs (omega arith), quick-level i bs e .1)
+      omega (arith, run-sum (leastOf (length bs) i) (mostOf (length bs) i) 4 (fresh first (firstWidth bs)) bs (omega arith), quick-level i bs e .1)

@@ -59,7 +59,7 @@ struct Quick {
     end: u32,
     // Bits that must be 0.
     faults: u32,
-    // The bits of numbers that must be below 2 ^ (k + 1): every fourth end, and the number before the first length.
+    // The bits of numbers that must be below 2 ^ (k + 1): every fifth end, and the number before the first length.
     reach: u32,
     // The bits of what each weight is above the least one.
     extra: u32,
@@ -111,7 +111,7 @@ fn quick_bucket(t: Quick, b: Slot, least: u32, most: u32) -> Quick
 }
 
 // An offset is a multiple of its length, so that an end past 0 is at most twice as large as the one before it: it is enough to look at
-// every fourth to see that none wraps.
+// every fifth to see that none wraps.
 fn mark(t: Quick) -> Quick
     ensures { λ r. ⌜ r ≡ marked t ⌝ }
 {
@@ -124,35 +124,36 @@ fn mark(t: Quick) -> Quick
     }
 }
 
-// The four slots at the front of words: a loop over fours is compiled to read sixteen slots at once.
-fn quick_four(t: Quick, rest: &[u32], least: u32, most: u32) -> Quick
-    requires { ⌜ 12 ≤ length (now rest) ⌝ }
-    ensures { λ r. ⌜ r ≡ quickRun least most 3 t (fronts (now (rest .entry))) ⌝ }
+// The five slots at the front of words: a loop over fives is compiled to read twenty slots at once.
+fn quick_five(t: Quick, rest: &[u32], least: u32, most: u32) -> Quick
+    requires { ⌜ 15 ≤ length (now rest) ⌝ }
+    ensures { λ r. ⌜ r ≡ quickRun least most 4 t (fronts (now (rest .entry))) ⌝ }
 {
     let one = quick_bucket(t, slot_from(rest, 0), least, most);
     let two = quick_bucket(one, slot_from(rest, 3), least, most);
     let three = quick_bucket(two, slot_from(rest, 6), least, most);
-    mark(quick_bucket(three, slot_from(rest, 9), least, most))
+    let four = quick_bucket(three, slot_from(rest, 9), least, most);
+    mark(quick_bucket(four, slot_from(rest, 12), least, most))
 }
 
-// The slots in fours, as far as they go.
-fn quick_fours(level: &[u32], count: usize, least: u32, most: u32) -> Quick
+// The slots in fives, as far as they go.
+fn quick_fives(level: &[u32], count: usize, least: u32, most: u32) -> Quick
     requires { ⌜ (2 + 3 * count ≤ length (now level)) × (count ≤ 1024) × (0 < count) ⌝ }
-    ensures { λ r. ⌜ quickRun least most 3 r (slots (now (level .entry)) (count / 4 * 4) (count - count / 4 * 4))
+    ensures { λ r. ⌜ quickRun least most 4 r (slots (now (level .entry)) (count / 5 * 5) (count - count / 5 * 5))
         ≡ quickWhole least most (getD (now (level .entry)) 1 0) (slots (now (level .entry)) 0 count) ⌝ }
 {
     let mut t = begin(level[1], level[3]);
     let mut rest = &level[2..];
     let mut at: usize = 0;
-    while at + 4 <= count {
-        t = quick_four(t, rest, least, most);
-        rest = &rest[12..];
-        at += 4;
+    while at + 5 <= count {
+        t = quick_five(t, rest, least, most);
+        rest = &rest[15..];
+        at += 5;
     }
     t
 }
 
-// The slots from `from` on, which are too few for a four.
+// The slots from `from` on, which are too few for a five.
 fn quick_rest(t: Quick, level: &[u32], from: usize, count: usize, least: u32, most: u32) -> Quick
     requires { ⌜ (2 + 3 * count ≤ length (now level)) × (count ≤ 1024) ⌝ }
     ensures { λ r. ⌜ r ≡ quickAll least most t (slots (now (level .entry)) from (count - from)) ⌝ }
@@ -170,8 +171,8 @@ fn quick_buckets(level: &[u32], count: usize, least: u32, most: u32) -> Quick
     requires { ⌜ (2 + 3 * count ≤ length (now level)) × (count ≤ 1024) × (0 < count) ⌝ }
     ensures { λ r. ⌜ r ≡ quickWhole least most (getD (now (level .entry)) 1 0) (slots (now (level .entry)) 0 count) ⌝ }
 {
-    let t = quick_fours(level, count, least, most);
-    quick_rest(t, level, count / 4 * 4, count, least, most)
+    let t = quick_fives(level, count, least, most);
+    quick_rest(t, level, count / 5 * 5, count, least, most)
 }
 
 // What the weight of a bucket that is longer than 1 has at most above the least one.

@@ -8,14 +8,14 @@ use Rattle.model.specs.Words.{slots}
 use Rattle.laws.specs.LevelWords.{slots-all}
 use Rattle.sound.specs.Quick.{quickRun, quickWhole}
 use Rattle.sound.specs.QuickLaws.{first-width}
-use Rattle.words.specs.Slot.{part-all, fronts-moved, slots-four}
-use Rattle.sound.proofs.quick_fours.Statement.{statement}
-use Rattle.sound.proofs.quick_fours.Tie as tie
+use Rattle.words.specs.Slot.{part-all, fronts-moved, slots-five}
+use Rattle.sound.proofs.quick_fives.Statement.{statement}
+use Rattle.sound.proofs.quick_fives.Tie as tie
 
 abbrev Inv-loop : tie.InvT-loop
 Inv-loop level count least most t₀ rest₀ at₀ t rest at =
-    (at ≤ count) × (at % 4 ≡ 0) × (rest ≡ drop (2 + 3 * at) level)
-    × (quickRun least most 3 t (slots level at (count - at)) ≡ quickWhole least most (getD level 1 0) (slots level 0 count))
+    (at ≤ count) × (at % 5 ≡ 0) × (rest ≡ drop (2 + 3 * at) level)
+    × (quickRun least most 4 t (slots level at (count - at)) ≡ quickWhole least most (getD level 1 0) (slots level 0 count))
 
 abbrev μ-loop : tie.MeasureT-loop
 μ-loop level count least most t₀ rest₀ at₀ t rest at = count - at
@@ -47,14 +47,14 @@ loop-holds c =
 add-loop : tie.Need-add-loop Inv-loop μ-loop
 add-loop c = search needs
 
--- four slots are left at the front
-left : (c : tie.At-loop Inv-loop μ-loop) → c .loop .at + 4 ≤ c .before .before .before .before .before .before .args .count → 12 ≤ length (c .loop .rest .now)
+-- five slots are left at the front
+left : (c : tie.At-loop Inv-loop μ-loop) → c .loop .at + 5 ≤ c .before .before .before .before .before .before .args .count → 15 ≤ length (c .loop .rest .now)
 left c h =
     let ws = c .before .before .before .before .before .before .args .level .now in
     rw (c .loop .inv .2, length-drop (2 + 3 * c .loop .at) ws) (omega arith)
 
-quick-four-requires : tie.Need-quick-four-requires Inv-loop μ-loop
-quick-four-requires c κs = left (c .before) (c .loop-test .taken)
+quick-five-requires : tie.Need-quick-five-requires Inv-loop μ-loop
+quick-five-requires c κs = left (c .before) (c .loop-test .taken)
 
 sub-rest-2 : tie.Need-sub-rest-2 Inv-loop μ-loop
 sub-rest-2 c = left (c .before .before) (c .before .loop-test .taken)
@@ -77,22 +77,22 @@ loop-again c =
     let a = l .before .before .before .before .before .before .args in
     let ws = a .level .now in
     let more = c .before .before .loop-test .taken in
-    let read = slots-four ws (l .loop .rest .now) (l .loop .at) (a .count) (l .loop .inv .2) more in (
+    let read = slots-five ws (l .loop .rest .now) (l .loop .at) (a .count) (l .loop .inv .2) more in (
       more,
       omega (arith, l .loop .inv .1),
       fronts-moved (l .loop .rest .now) ws (l .loop .at) (l .loop .inv .2),
-      rw (c .before .quick-four .ensures) (rw read at (l .loop .inv .3)),
+      rw (c .before .quick-five .ensures) (rw read at (l .loop .inv .3)),
     )
 
 returns : tie.Need-returns Inv-loop μ-loop
 returns c =
     let l = c .before in
     let count = l .before .before .before .before .before .before .args .count in
-    let last : l .loop .at ≡ count / 4 * 4 = omega (arith, c .loop-test .left, l .loop .inv .0, l .loop .inv .1) in
+    let last : l .loop .at ≡ count / 5 * 5 = omega (arith, c .loop-test .left, l .loop .inv .0, l .loop .inv .1) in
     rw last at (l .loop .inv .3)
 
-pub quick-fours-spec : {M : Type 1} → statement M
-quick-fours-spec =
+pub quick-fives-spec : {M : Type 1} → statement M
+quick-fives-spec =
     tie.close
     (tie.spec
     Inv-loop
@@ -105,7 +105,7 @@ quick-fours-spec =
     part-rest-end
     loop-holds
     add-loop
-    quick-four-requires
+    quick-five-requires
     sub-rest-2
     part-rest-start-2
     part-rest-end-2

@@ -4,22 +4,25 @@ use mathlib.Core.List.{List, [], _∷_}
 use mathlib.Core.Logic.{⊎-elim}
 use mathlib.Core.Path.{_≡_, refl, sym, _∙_}
 use Prim.Native.Nat.{ℕ, zero, suc, _+_, _-_, _*_, _/_, _%_, _^_, _≤_, _<_}
-use native.Mathlib.Nat.{pow-suc, mod-eq-of-lt}
+use native.Mathlib.Nat.{add-zero, mul-suc, mul-le-mul-right, pow-suc, mod-eq-of-lt}
 use native.Mathlib.Omega.{arith}
-use lib.Bits.{bitAnd, bitXor, and-comm, and-mask, xor-shifted}
-use lib.ListN.{length, getD}
+use lib.Bits.{bitAnd, bitOr, bitXor, and-comm, and-mask, xor-shifted}
+use lib.ListN.{length, getD, take, drop, length-drop}
 use lib.Pow.{pow-pos, pow-mono}
+use lib.Seq.{getD-drop}
 use borrow.Author.Tests.{le-leb, lt-leb}
 use Rattle.model.specs.Level.{Bucket}
 use Rattle.model.specs.Words.{slots}
 use Rattle.model.specs.Sound.{weightOf, soundBuckets}
 use Rattle.laws.specs.Cases.{lt-or-ge, by-lt, by-le}
-use Rattle.laws.specs.Reflect.{Tests, tests-same, ltb-tests, eqb-tests, and-tests}
+use Rattle.laws.specs.Reflect.{Tests, tests-same, leb-tests, ltb-tests, eqb-tests, and-tests}
 use Rattle.laws.specs.SoundFacts.{SoundBucket, Chained, SoundBuckets, buckets-tests}
+use Rattle.laws.specs.LevelWords.{slots-all, length-slots}
+use Rattle.words.specs.Slot.{fronts, part-all, fronts-moved, slots-five}
 use Rattle.words.specs.Bits.{or-none, or-least, xor-none, lone-bit}
 use Rattle.pass.specs.Pass.{less, leastOf}
 use Rattle.pass.specs.PassLaws.{reached, before-is, aligned, chained-start}
-use Rattle.sound.specs.Quick.{fresh, above, over, quickBucket, quickAll, marked, quickRun, firstWidth, quickWhole, mostOf, enough}
+use Rattle.sound.specs.Quick.{fresh, above, over, quickBucket, quickAll, marked, quickRun, firstWidth, quickWhole, mostOf, enough, tried}
 use Rattle.sound.specs.declared.Quick.{Quick}
 
 -- ---- where the code starts and ends
@@ -31,9 +34,41 @@ few-left least most zero t (b ∷ bs) h = absurd (omega arith)
 few-left least most (suc left) t (b ∷ bs) h = few-left least most left (quickBucket least most t b) bs (omega arith)
 
 -- the word that has the first bucket's length
-pub first-width : (ws : List ℕ) (c : ℕ) → 0 < c → firstWidth (slots ws 0 c) ≡ getD ws 3 0
+first-width : (ws : List ℕ) (c : ℕ) → 0 < c → firstWidth (slots ws 0 c) ≡ getD ws 3 0
 first-width ws zero h = absurd (omega arith)
 first-width ws (suc c) h = refl
+
+-- what a loop over fives has: `rest` starts at slot `at`, and what is seen comes with the slots from there to what all slots do
+abbrev pub Fives : ℕ → ℕ → List ℕ → ℕ → Quick → List ℕ → ℕ → Type 0
+Fives least most ws count t rest at =
+    (at ≤ count) × (at % 5 ≡ 0) × (rest ≡ drop (2 + 3 * at) ws)
+    × (quickRun least most 4 t (slots ws at (count - at)) ≡ quickWhole least most (getD ws 1 0) (slots ws 0 count))
+
+module _ (least most : ℕ) (ws : List ℕ) (count : ℕ) where
+  pub fives-start : 0 < count → Fives least most ws count (fresh (getD ws 1 0) (getD ws 3 0)) (take (length ws - 2) (drop 2 ws)) 0
+  fives-start some = rw (slots-all ws count, ← first-width ws count some) (omega arith, omega arith, part-all ws 2, refl)
+
+  -- five slots are left at the front
+  pub fives-room : (t : Quick) (rest : List ℕ) (at : ℕ) → Fives least most ws count t rest at → 2 + 3 * count ≤ length ws → at + 5 ≤ count → 15 ≤ length rest
+  fives-room t rest at f room more = rw (f .2, length-drop (2 + 3 * at) ws) (omega (arith, room, more))
+
+  pub fives-next : (t : Quick) (rest : List ℕ) (at : ℕ) → Fives least most ws count t rest at → at + 5 ≤ count
+      → Fives least most ws count (quickRun least most 4 t (fronts rest)) (take (length rest - 15) (drop 15 rest)) (at + 5)
+  fives-next t rest at f more =
+      (more, omega (arith, f .1), fronts-moved rest ws at (f .2), rw (slots-five ws rest at count (f .2) more) at (f .3))
+
+  pub fives-end : (t : Quick) (rest : List ℕ) (at : ℕ) → Fives least most ws count t rest at → count < at + 5 → at ≡ count / 5 * 5
+  fives-end t rest at f last = omega (arith, f .0, f .1, last)
+
+-- the weights of five slots
+pub fronts-weight : (ws : List ℕ) → weightOf (fronts ws) ≡ getD ws 2 0 + getD ws 5 0 + getD ws 8 0 + getD ws 11 0 + getD ws 14 0
+fronts-weight ws =
+    let nested : weightOf (fronts ws) ≡ getD ws 2 0 + (getD ws 5 0 + (getD ws 8 0 + (getD ws 11 0 + getD ws 14 0))) = simp (getD-drop, add-zero) in
+    omega (arith, nested)
+
+-- one weight more, up to a multiple of 2 ^ 32
+pub added : (s x r t w : ℕ) → r ≡ (s + x) % 2 ^ 32 → t ≡ (r + w) % 2 ^ 32 → t ≡ (s + (x + w)) % 2 ^ 32
+added s x r t w p q = omega (arith, p, q)
 
 -- ---- the tests of one number
 
@@ -240,21 +275,38 @@ module _ (k i count : ℕ) (few : k ≤ 20) (low : i ≤ 24) (small : leastOf co
       let bound : u .end ≤ 2 ^ suc m = omega (arith, n .same, n .most) in
       linked m t b bs r n (run-linked left (suc m) u bs (omega (arith, sum)) (omega (arith, lo)) bound (past-start m t b bs n) p e)
 
--- ---- the sum
+-- ---- the weights
 
-module _ (least most : ℕ) where
-  sum-next : (t : Quick) (b : Bucket) → quickBucket least most t b .sum ≡ (t .sum + b .weight) % 2 ^ 32
+-- no weight is more above the least one than the bits of all
+record Most (least e : ℕ) (t : Quick) (bs : List Bucket) : Type 0 where
+  extra : t .extra ≤ e
+  weight : weightOf bs ≤ (least + e) * length bs
+
+more : (top x w n : ℕ) → x ≤ top → w ≤ top * n → x + w ≤ top * suc n
+more top x w n h p = omega (arith, h, p, mul-suc top n)
+
+module _ (least most : ℕ) (small : least ≤ 1048576) where
+  extra-next : (t : Quick) (b : Bucket) → quickBucket least most t b .extra ≡ bitOr (t .extra) (above (b .weight) least)
   unfolding quickBucket
-  sum-next t b = refl
+  extra-next t b = refl
 
-  run-sum : (left : ℕ) (t : Quick) (bs : List Bucket) → t .sum < 2 ^ 32 → quickRun least most left t bs .sum ≡ (t .sum + weightOf bs) % 2 ^ 32
-  run-sum left t [] h = omega arith
-  run-sum zero t (b ∷ bs) h = let u = quickBucket least most t b in
-      let s = sum-next t b in
-      omega (arith, run-sum 4 (marked u) bs (omega (arith, s)), s)
-  run-sum (suc left) t (b ∷ bs) h = let u = quickBucket least most t b in
-      let s = sum-next t b in
-      omega (arith, run-sum left u bs (omega (arith, s)), s)
+  next-most : (e : ℕ) (t : Quick) (b : Bucket) (bs : List Bucket) → e < 2097152 → quickBucket least most t b .extra ≤ e
+      → weightOf bs ≤ (least + e) * length bs → Most least e t (b ∷ bs)
+  next-most e t b bs near h p =
+      let r = or-least (t .extra) (above (b .weight) least) in
+      let x = extra-next t b in
+      let s = above-small (b .weight) least small (omega (arith, near, h, x, r .1)) in
+      record { extra = omega (arith, h, x, r .0); weight = more (least + e) (b .weight) (weightOf bs) (length bs) (omega (arith, h, x, r .1, s .1)) p }
+
+  run-most : (left : ℕ) (t : Quick) (bs : List Bucket) → quickRun least most left t bs .extra < 2097152
+      → Most least (quickRun least most left t bs .extra) t bs
+  run-most left t [] near = record { extra = omega arith; weight = omega arith }
+  run-most zero t (b ∷ bs) near =
+      let m = run-most 4 (marked (quickBucket least most t b)) bs near in
+      next-most _ t b bs near (m .extra) (m .weight)
+  run-most (suc left) t (b ∷ bs) near =
+      let m = run-most left (quickBucket least most t b) bs near in
+      next-most _ t b bs near (m .extra) (m .weight)
 
 -- ---- the level
 
@@ -270,6 +322,13 @@ enough-tests k first t =
     (and-tests (eqb-tests (t .end) (2 ^ k)) (ltb-tests (t .extra) 2097152)))))
     (λ p. (p .0, record { exact = p .1 .0; inside = p .1 .1 .0; near = p .1 .1 .1 .1 }, p .1 .1 .1 .0))
     (λ f. let p = f .1 in (f .0, (p .exact, (p .inside, (f .2, p .near)))))
+
+-- what is asked where a quick pass is tried
+pub tried-tests : (count i : ℕ) → Tests (tried count i) ((0 < i) × (0 < count) × (leastOf count i ≤ 1048576))
+unfolding tried
+tried-tests count i =
+    tests-same (and-tests (ltb-tests 0 i) (and-tests (ltb-tests 0 count) (leb-tests (leastOf count i) 1048576))) (λ p. (p .0, p .1 .0, p .1 .1))
+    (λ p. (p .0, (p .1, p .2)))
 
 -- a quick pass over all buckets of level i, where the least weight is small, sees enough
 pub record SeenEnough (k i first : ℕ) (bs : List Bucket) : Type 0 where
@@ -295,7 +354,41 @@ module _ (k first : ℕ) (few : k ≤ 20) where
   pub enough-sound : (i : ℕ) (bs : List Bucket) → SeenEnough k i first bs → soundBuckets k i first bs ≡ true
   enough-sound i bs e = buckets-tests k i first bs .1 (quick-level i bs e .0)
 
-  pub enough-weight : (i : ℕ) (bs : List Bucket) → length bs ≤ 1024 → SeenEnough k i first bs
-      → quickWhole (leastOf (length bs) i) (mostOf (length bs) i) first bs .sum ≡ weightOf bs
-  enough-weight i bs small e =
-      omega (arith, run-sum (leastOf (length bs) i) (mostOf (length bs) i) 4 (fresh first (firstWidth bs)) bs (omega arith), quick-level i bs e .1)
+  -- the weights have a sum below 2 ^ 32
+  pub enough-weight : (i : ℕ) (bs : List Bucket) → length bs ≤ 1024 → SeenEnough k i first bs → weightOf bs % 2 ^ 32 ≡ weightOf bs
+  enough-weight i bs few-buckets e = mod-eq-of-lt (omega (arith, few-buckets, quick-level i bs e .1))
+
+  -- and each is within the largest that the pass may have seen
+  pub enough-most : (i : ℕ) (bs : List Bucket) → SeenEnough k i first bs
+      → weightOf bs ≤ (leastOf (length bs) i + quickWhole (leastOf (length bs) i) (mostOf (length bs) i) first bs .extra) * length bs
+  enough-most i bs e =
+      let f = enough-tests k first _ .0 (e .seen) in
+      run-most (leastOf (length bs) i) (mostOf (length bs) i) (e .small) 4 (fresh first (firstWidth bs)) bs (f .1 .near) .weight
+
+-- ---- the slots of a level
+
+pub product-fits : (a b : ℕ) → a ≤ 2 ^ 33 → b ≤ 1024 → a * b < 2 ^ 64
+product-fits a b ha hb = omega (arith, mul-le-mul-right {m = a} {n = 8589934592} b ha, hb)
+
+module _ (ws : List ℕ) (count k i : ℕ) (few : k ≤ 20) (low : i ≤ 24) where
+  abbrev bs : List Bucket
+  bs = slots ws 0 count
+
+  abbrev first : ℕ
+  first = getD ws 1 0
+
+  abbrev seen : Quick
+  seen = quickWhole (leastOf count i) (mostOf count i) first bs
+
+  pub seen-enough : tried count i ≡ true → enough k first seen ≡ true → SeenEnough k i first bs
+  seen-enough t e =
+      let p = tried-tests count i .0 t in
+      let n = length-slots ws 0 count in
+      record { upper = p .0; low = low; small = rw n (p .2); seen = rw n e }
+
+  pub seen-within : (total : ℕ) → tried count i ≡ true → enough k first seen ≡ true → (leastOf count i + seen .extra) * count ≤ total
+      → (soundBuckets k i first bs ≡ true) × (weightOf bs ≤ total)
+  seen-within total t e h =
+      let s = seen-enough t e in
+      let m = enough-most k first few i bs s in
+      (enough-sound k first few i bs s, omega (arith, h, rw (length-slots ws 0 count) at m))

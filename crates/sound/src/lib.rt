@@ -13,15 +13,15 @@ use words::slot_from;
 use words::wide;
 ghost use mathlib.Core.Path.{_≡_};
 ghost use mathlib.Core.Bool.{_&&_};
-ghost use Prim.Native.Nat.{_+_, _-_, _*_, _/_, _<_, _≤_};
+ghost use Prim.Native.Nat.{_+_, _-_, _*_, _/_, _%_, _^_, _<_, _≤_};
 ghost use lib.Dec.{eqb};
 ghost use lib.ListN.{length, getD, drop};
 ghost use Rattle.shape.specs.Layout.{levelWords};
 ghost use Rattle.model.specs.Words.{slots};
-ghost use Rattle.model.specs.Sound.{zeros, soundLevel};
+ghost use Rattle.model.specs.Sound.{zeros, weightOf, soundLevel};
 ghost use Rattle.words.specs.Slot.{content, fronts};
 ghost use Rattle.pass.specs.Pass.{Judged};
-ghost use Rattle.sound.specs.Quick.{fresh, over, quickBucket, quickAll, marked, quickRun, quickWhole, mostOf, enough};
+ghost use Rattle.sound.specs.Quick.{fresh, over, quickBucket, quickAll, marked, quickRun, quickWhole, mostOf, enough, tried, Within};
 
 // The bits of the words of `low` and of as many of `high`, joined: two streams at once, so that the compiler takes four vectors a turn.
 fn joined(low: &[u32], high: &[u32]) -> u32
@@ -63,8 +63,6 @@ struct Quick {
     reach: u32,
     // The bits of what each weight is above the least one.
     extra: u32,
-    // The sum of the weights, up to a multiple of 2 ^ 32.
-    sum: u32,
 }
 
 // Before the first bucket, which has this length.
@@ -76,7 +74,6 @@ fn begin(first: u32, width: u32) -> Quick
         faults: 0,
         reach: std::num::wrapping_sub_u32(width, 1),
         extra: 0,
-        sum: 0,
     }
 }
 
@@ -106,7 +103,6 @@ fn quick_bucket(t: Quick, b: Slot, least: u32, most: u32) -> Quick
             | (mask(extra, most) & before),
         reach: t.reach,
         extra: t.extra | extra,
-        sum: std::num::wrapping_add_u32(t.sum, b.weight),
     }
 }
 
@@ -120,7 +116,6 @@ fn mark(t: Quick) -> Quick
         faults: t.faults,
         reach: t.reach | t.end,
         extra: t.extra,
-        sum: t.sum,
     }
 }
 
@@ -175,6 +170,74 @@ fn quick_buckets(level: &[u32], count: usize, least: u32, most: u32) -> Quick
     quick_rest(t, level, count / 5 * 5, count, least, most)
 }
 
+// A quick pass that has also added the weights.
+struct Weighed {
+    seen: Quick,
+    // The sum of the weights, up to a multiple of 2 ^ 32.
+    sum: u32,
+}
+
+// The weights of the five slots at the front of words, added to a sum.
+fn add_five(sum: u32, rest: &[u32]) -> u32
+    requires { ⌜ 15 ≤ length (now rest) ⌝ }
+    ensures { λ r. ⌜ r ≡ (sum + weightOf (fronts (now (rest .entry)))) % 2 ^ 32 ⌝ }
+{
+    let one = std::num::wrapping_add_u32(sum, rest[2]);
+    let two = std::num::wrapping_add_u32(one, rest[5]);
+    let three = std::num::wrapping_add_u32(two, rest[8]);
+    let four = std::num::wrapping_add_u32(three, rest[11]);
+    std::num::wrapping_add_u32(four, rest[14])
+}
+
+// As `quick_fives`, and the weights are added.
+fn weigh_fives(level: &[u32], count: usize, least: u32, most: u32) -> Weighed
+    requires { ⌜ (2 + 3 * count ≤ length (now level)) × (count ≤ 1024) × (0 < count) ⌝ }
+    ensures { λ r. ⌜ (quickRun least most 4 (r .seen) (slots (now (level .entry)) (count / 5 * 5) (count - count / 5 * 5))
+        ≡ quickWhole least most (getD (now (level .entry)) 1 0) (slots (now (level .entry)) 0 count))
+        × ((r .sum + weightOf (slots (now (level .entry)) (count / 5 * 5) (count - count / 5 * 5))) % 2 ^ 32
+        ≡ weightOf (slots (now (level .entry)) 0 count) % 2 ^ 32) ⌝ }
+{
+    let mut t = begin(level[1], level[3]);
+    let mut sum: u32 = 0;
+    let mut rest = &level[2..];
+    let mut at: usize = 0;
+    while at + 5 <= count {
+        t = quick_five(t, rest, least, most);
+        sum = add_five(sum, rest);
+        rest = &rest[15..];
+        at += 5;
+    }
+    Weighed { seen: t, sum: sum }
+}
+
+// The weights of the slots from `from` on, added to a sum.
+fn add_rest(sum: u32, level: &[u32], from: usize, count: usize) -> u32
+    requires { ⌜ (2 + 3 * count ≤ length (now level)) × (count ≤ 1024) ⌝ }
+    ensures { λ r. ⌜ r ≡ (sum + weightOf (slots (now (level .entry)) from (count - from))) % 2 ^ 32 ⌝ }
+{
+    let mut all = sum;
+    let mut next = from;
+    while next < count {
+        let b = slot_at(level, next);
+        all = std::num::wrapping_add_u32(all, b.weight);
+        next += 1;
+    }
+    all
+}
+
+fn weigh_buckets(level: &[u32], count: usize, least: u32, most: u32) -> Weighed
+    requires { ⌜ (2 + 3 * count ≤ length (now level)) × (count ≤ 1024) × (0 < count) ⌝ }
+    ensures { λ r. ⌜ (r .seen ≡ quickWhole least most (getD (now (level .entry)) 1 0) (slots (now (level .entry)) 0 count))
+        × (r .sum ≡ weightOf (slots (now (level .entry)) 0 count) % 2 ^ 32) ⌝ }
+{
+    let w = weigh_fives(level, count, least, most);
+    let from = count / 5 * 5;
+    Weighed {
+        seen: quick_rest(w.seen, level, from, count, least, most),
+        sum: add_rest(w.sum, level, from, count),
+    }
+}
+
 // What the weight of a bucket that is longer than 1 has at most above the least one.
 fn most(count: usize, i: u8) -> u32
     requires { ⌜ i ≤ 30 ⌝ }
@@ -203,30 +266,46 @@ fn is_enough(t: Quick, first: u32, k: u8) -> bool
     )
 }
 
-// The weight of a level's buckets, and whether they are sound: by the quick pass, where that is enough. It is not tried where the least
-// weight is above 2 ^ 20, since the sum of 1024 weights that pass its tests may then reach 2 ^ 32.
+// Whether a quick pass is tried: not where the least weight is above 2 ^ 20, since the sum of 1024 weights that pass its tests may then
+// reach 2 ^ 32.
+fn is_tried(count: usize, i: u8) -> bool
+    requires { ⌜ i ≤ 24 ⌝ }
+    ensures { λ r. ⌜ r ≡ tried count i ⌝ }
+{
+    both(0 < i, both(0 < count, least(count, i) <= 1048576))
+}
+
+// The weight of a level's buckets, and whether they are sound: by a quick pass, where that is enough.
 fn judge(level: &[u32], count: usize, k: u8, i: u8) -> Verdict
     requires { ⌜ (2 + 3 * count ≤ length (now level)) × (count ≤ 1024) × (k ≤ 20) × (i ≤ 24) ⌝ }
     ensures { λ r. ⌜ Judged k i (getD (now (level .entry)) 1 0) (slots (now (level .entry)) 0 count) r ⌝ }
 {
-    if i == 0 {
-        return judge_seen(level, count, k, i);
-    }
-    if count == 0 {
-        return judge_seen(level, count, k, i);
-    }
-    let low = least(count, i);
-    if 1048576 < low {
-        return judge_seen(level, count, k, i);
-    }
-    let t = quick_buckets(level, count, low, most(count, i));
-    if is_enough(t, level[1], k) {
-        return Verdict {
-            weight: long(t.sum),
-            sound: true,
-        };
+    if is_tried(count, i) {
+        let low = least(count, i);
+        let w = weigh_buckets(level, count, low, most(count, i));
+        if is_enough(w.seen, level[1], k) {
+            return Verdict {
+                weight: long(w.sum),
+                sound: true,
+            };
+        }
     }
     judge_seen(level, count, k, i)
+}
+
+// Whether a quick pass tells that the buckets are sound and weigh at most the total, by the largest weight that it may have seen: no
+// weight is added. Where it does not tell, that is left open.
+fn is_within(level: &[u32], count: usize, k: u8, i: u8, total: u64) -> bool
+    requires { ⌜ (2 + 3 * count ≤ length (now level)) × (count ≤ 1024) × (k ≤ 20) × (i ≤ 24) ⌝ }
+    ensures { λ r. ⌜ Within k i (getD (now (level .entry)) 1 0) total (slots (now (level .entry)) 0 count) r ⌝ }
+{
+    if is_tried(count, i) {
+        let low = least(count, i);
+        let t = quick_buckets(level, count, low, most(count, i));
+        let top = long(low) + long(t.extra);
+        return both(is_enough(t, level[1], k), top * count as u64 <= total);
+    }
+    false
 }
 
 // Whether the words of level i are sound in a half of this total. The words may be any.
@@ -241,6 +320,11 @@ pub fn sound_level(level: &[u32], s: Shape, i: u8, total: u64) -> bool
         return false;
     }
     let unused = is_zero(level, 2 + 3 * count);
+    if 0 < first {
+        if is_within(level, count, s.k, i, total) {
+            return both(unused, count == n);
+        }
+    }
     let v = judge(level, count, s.k, i);
     let weight = v.weight;
     let whole = implied(first == 0, weight == total);

@@ -1,41 +1,30 @@
--- Where the quick pass is enough, its sum is the weight; else the other pass decides.
-use mathlib.Core.Path.{sym}
-use Prim.Native.Nat.{_≤_, _<_}
-use native.Mathlib.Omega.{arith}
+-- Where a quick pass is enough, its sum is the weight; else the other pass decides.
+use mathlib.Core.Path.{sym, _∙_}
+use Prim.Native.Nat.{_≤_}
 use lib.ListN.{length, getD}
+use native.Mathlib.Omega.{arith}
 use borrow.Author.Needs.{needs}
 use Rattle.model.specs.Words.{slots}
 use Rattle.laws.specs.LevelWords.{length-slots}
-use Rattle.sound.specs.QuickLaws.{SeenEnough, enough-sound, enough-weight}
+use Rattle.sound.specs.QuickLaws.{tried-tests, seen-enough, enough-sound, enough-weight}
 use Rattle.sound.proofs.judge.Statement.{statement}
 use Rattle.sound.proofs.judge.Tie as tie
 
-judge-seen-requires : tie.Need-judge-seen-requires
-judge-seen-requires c κs = search needs
-
-returns : tie.Need-returns
-returns c = c .judge-seen .ensures
-
-judge-seen-requires-2 : tie.Need-judge-seen-requires-2
-judge-seen-requires-2 c κs = search needs
-
-returns-2 : tie.Need-returns-2
-returns-2 c = c .judge-seen2 .ensures
+is-tried-requires : tie.Need-is-tried-requires
+is-tried-requires c κs = search needs
 
 least-requires : tie.Need-least-requires
 least-requires c κs = search needs
 
-judge-seen-requires-3 : tie.Need-judge-seen-requires-3
-judge-seen-requires-3 c κs = search needs
-
-returns-3 : tie.Need-returns-3
-returns-3 c = c .judge-seen3 .ensures
-
 most-requires : tie.Need-most-requires
 most-requires c κs = search needs
 
-quick-buckets-requires : tie.Need-quick-buckets-requires
-quick-buckets-requires c κs = search needs
+weigh-buckets-requires : tie.Need-weigh-buckets-requires
+weigh-buckets-requires c κs =
+    let t = c .before .before .before in
+    let a = t .before .before .args in
+    let p = tried-tests (a .count) (a .i) .0 (rw (t .is-tried .ensures) at (c .before .before .if1 .taken)) in
+    (omega arith, omega arith, p .1)
 
 shared-slice-read-is-enough : tie.Need-shared-slice-read-is-enough
 shared-slice-read-is-enough c = search needs
@@ -46,51 +35,40 @@ is-enough-requires c κs = search needs
 long-requires : tie.Need-long-requires
 long-requires c κs = search needs
 
-returns-4 : tie.Need-returns-4
-returns-4 c =
+returns : tie.Need-returns
+returns c =
     let d = c .before .before in
     let q = d .before .before in
-    let l = q .before .before .before in
-    let a = l .before .before .before .before .args in
+    let m = q .before in
+    let t = m .before .before .before in
+    let a = t .before .before .args in
     let ws = a .level .now in
     let bs = slots ws 0 (a .count) in
     let first = getD ws 1 0 in
-    let number = length-slots ws 0 (a .count) in
-    let few : length bs ≤ 1024 = rw number (omega arith) in
-    let same = l .least .ensures in
-    let seen : SeenEnough (a .k) (a .i) first bs = record {
-      upper = omega arith;
-      low = omega arith;
-      small = rw (number, ← same) (omega arith);
-      seen = rw (number, ← same, ← q .before .most .ensures, ← q .quick-buckets .ensures, ← d .is-enough .ensures) (c .before .if4 .taken);
-    } in
-    let heavy = enough-weight (a .k) first (omega arith) (a .i) bs few seen in (
-      rw (c .long .ensures .0, q .quick-buckets .ensures, q .before .most .ensures, same) (rw number at heavy),
+    let few : length bs ≤ 1024 = rw (length-slots ws 0 (a .count)) (omega arith) in
+    let tests = rw (d .is-enough .ensures, q .weigh-buckets .ensures .0, m .most .ensures, m .before .least .ensures) at (c .before .if2 .taken) in
+    let seen = seen-enough ws (a .count) (a .k) (a .i) (omega arith) (omega arith) (rw (t .is-tried .ensures) at (m .before .before .if1 .taken)) tests in (
+      c .long .ensures .0 ∙ q .weigh-buckets .ensures .1 ∙ enough-weight (a .k) first (omega arith) (a .i) bs few seen,
       sym (enough-sound (a .k) first (omega arith) (a .i) bs seen),
     )
 
-judge-seen-requires-4 : tie.Need-judge-seen-requires-4
-judge-seen-requires-4 c κs = search needs
+judge-seen-requires : tie.Need-judge-seen-requires
+judge-seen-requires c κs = search needs
 
-returns-5 : tie.Need-returns-5
-returns-5 c = c .judge-seen4 .ensures
+returns-2 : tie.Need-returns-2
+returns-2 c = c .judge-seen .ensures
 
 pub judge-spec : {M : Type 1} → statement M
 judge-spec =
     tie.close
     (tie.spec
-    judge-seen-requires
-    returns
-    judge-seen-requires-2
-    returns-2
+    is-tried-requires
     least-requires
-    judge-seen-requires-3
-    returns-3
     most-requires
-    quick-buckets-requires
+    weigh-buckets-requires
     shared-slice-read-is-enough
     is-enough-requires
     long-requires
-    returns-4
-    judge-seen-requires-4
-    returns-5)
+    returns
+    judge-seen-requires
+    returns-2)

@@ -20,13 +20,10 @@ wrapping-add-u32-requires c κs = search needs
 mask-requires : tie.Need-mask-requires
 mask-requires c κs = search needs
 
-wrapping-add-u32-requires-2 : tie.Need-wrapping-add-u32-requires-2
-wrapping-add-u32-requires-2 c κs = search needs
-
 returns : tie.Need-returns
 unfolding quickBucket
 returns c =
-    let m = c .before .before in
+    let m = c .before in
     let w = m .before .before .before .before .before .before in
     let x = w .before .wrapping-sub-u322 in
     let d = w .before .before .wrapping-sub-u32 in
@@ -35,7 +32,6 @@ returns c =
     let narrow-extra : x .result < 2 ^ 32 = omega (arith, x .ok) in
     let word : a .args .least < 2 ^ 32 = omega arith in
     rw (
-      c .wrapping-add-u322 .ensures,
       m .mask .ensures,
       w .wrapping-add-u32 .ensures,
       above-is (x .result) _ _ narrow-extra word (x .ensures),
@@ -50,5 +46,4 @@ quick-bucket-spec =
     wrapping-sub-u32-requires-2
     wrapping-add-u32-requires
     mask-requires
-    wrapping-add-u32-requires-2
     returns)

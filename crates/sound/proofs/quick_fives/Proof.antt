@@ -1,21 +1,14 @@
 -- Invariant: what is seen and then the slots from `at` on come to what all slots do; `rest` starts at slot `at`.
-use mathlib.Core.Path.{_≡_, refl}
-use Prim.Native.Nat.{_+_, _-_, _*_, _/_, _%_, _≤_}
+use Prim.Native.Nat.{_+_, _-_, _≤_}
 use native.Mathlib.Omega.{arith}
-use lib.ListN.{length, getD, drop, length-drop}
+use lib.ListN.{length}
 use borrow.Author.Needs.{needs}
-use Rattle.model.specs.Words.{slots}
-use Rattle.laws.specs.LevelWords.{slots-all}
-use Rattle.sound.specs.Quick.{quickRun, quickWhole}
-use Rattle.sound.specs.QuickLaws.{first-width}
-use Rattle.words.specs.Slot.{part-all, fronts-moved, slots-five}
+use Rattle.sound.specs.QuickLaws.{Fives, fives-start, fives-room, fives-next, fives-end}
 use Rattle.sound.proofs.quick_fives.Statement.{statement}
 use Rattle.sound.proofs.quick_fives.Tie as tie
 
 abbrev Inv-loop : tie.InvT-loop
-Inv-loop level count least most t₀ rest₀ at₀ t rest at =
-    (at ≤ count) × (at % 5 ≡ 0) × (rest ≡ drop (2 + 3 * at) level)
-    × (quickRun least most 4 t (slots level at (count - at)) ≡ quickWhole least most (getD level 1 0) (slots level 0 count))
+Inv-loop level count least most t₀ rest₀ at₀ t rest at = Fives least most level count t rest at
 
 abbrev μ-loop : tie.MeasureT-loop
 μ-loop level count least most t₀ rest₀ at₀ t rest at = count - at
@@ -41,17 +34,17 @@ part-rest-end c = search needs
 loop-holds : tie.Need-loop-holds Inv-loop μ-loop
 loop-holds c =
     let a = c .before .before .before .before .before .args in
-    let ws = a .level .now in
-    rw (c .before .begin .ensures, slots-all ws (a .count), ← first-width ws (a .count) (omega arith)) (omega arith, omega arith, part-all ws 2, refl)
+    rw (c .before .begin .ensures) (fives-start (a .least) (a .most) (a .level .now) (a .count) (omega arith))
 
 add-loop : tie.Need-add-loop Inv-loop μ-loop
 add-loop c = search needs
 
 -- five slots are left at the front
 left : (c : tie.At-loop Inv-loop μ-loop) → c .loop .at + 5 ≤ c .before .before .before .before .before .before .args .count → 15 ≤ length (c .loop .rest .now)
-left c h =
-    let ws = c .before .before .before .before .before .before .args .level .now in
-    rw (c .loop .inv .2, length-drop (2 + 3 * c .loop .at) ws) (omega arith)
+left c more =
+    let a = c .before .before .before .before .before .before .args in
+    let l = c .loop in
+    fives-room (a .least) (a .most) (a .level .now) (a .count) (l .t) (l .rest .now) (l .at) (l .inv) (omega arith) more
 
 quick-five-requires : tie.Need-quick-five-requires Inv-loop μ-loop
 quick-five-requires c κs = left (c .before) (c .loop-test .taken)
@@ -75,21 +68,14 @@ loop-again : tie.Need-loop-again Inv-loop μ-loop
 loop-again c =
     let l = c .before .before .before in
     let a = l .before .before .before .before .before .before .args in
-    let ws = a .level .now in
-    let more = c .before .before .loop-test .taken in
-    let read = slots-five ws (l .loop .rest .now) (l .loop .at) (a .count) (l .loop .inv .2) more in (
-      more,
-      omega (arith, l .loop .inv .1),
-      fronts-moved (l .loop .rest .now) ws (l .loop .at) (l .loop .inv .2),
-      rw (c .before .quick-five .ensures) (rw read at (l .loop .inv .3)),
-    )
+    rw (c .before .quick-five .ensures)
+    (fives-next (a .least) (a .most) (a .level .now) (a .count) (l .loop .t) (l .loop .rest .now) (l .loop .at) (l .loop .inv) (c .before .before .loop-test .taken))
 
 returns : tie.Need-returns Inv-loop μ-loop
 returns c =
     let l = c .before in
-    let count = l .before .before .before .before .before .before .args .count in
-    let last : l .loop .at ≡ count / 5 * 5 = omega (arith, c .loop-test .left, l .loop .inv .0, l .loop .inv .1) in
-    rw last at (l .loop .inv .3)
+    let a = l .before .before .before .before .before .before .args in
+    rw (fives-end (a .least) (a .most) (a .level .now) (a .count) (l .loop .t) (l .loop .rest .now) (l .loop .at) (l .loop .inv) (omega (arith, c .loop-test .left))) at (l .loop .inv .3)
 
 pub quick-fives-spec : {M : Type 1} → statement M
 quick-fives-spec =

@@ -91,19 +91,26 @@ fn spans(shape: Shape, index: u32, level: Level, buckets: &[Slot], heavy: bool) 
         seen = Seen::run::<true>(level.first, least, above, buckets);
     }
     let sound = seen.faults == 0
-        && seen.bits | seen.weights < 2 << Shape::M_MAX
+        && seen.bits < WRAPPING
+        && seen.weights < 2 << Shape::M_MAX
         && seen.next == 1 << shape.k()
         && buckets.first().is_some_and(|slot| slot[1] != 0);
     sound.then(|| exact(buckets, seen.weights | least, seen.sum))
 }
+
+/// No offset or length of a sound level is so large; of ten buckets up to 2^32 all are.
+const WRAPPING: u32 = 4 << Shape::K_MAX;
 
 /// What a run through the buckets of a level collects.
 struct Seen {
     /// Not zero where a condition fails.
     faults: u32,
     /// Bits of offsets and lengths, which show whether a sum of the two can have wrapped. It is enough
-    /// to look at one bucket in four: lengths divide offsets, so that after the first bucket an offset
-    /// at most doubles, and the last seven of those that reach 2^32 are all at least 2^25.
+    /// to look at one bucket in ten, the first among them, if there is no fault and the first length
+    /// is not 0. Then a length divides its offset, and until a sum wraps only the first bucket begins
+    /// at 0: from the second on an offset at most doubles, so that of the buckets that reach 2^32 the
+    /// last ten begin at 2^22 or above. Where they are fewer, the first is one of them, and begins
+    /// there too or has a length as large as the offset of the second.
     bits: u32,
     /// Bits of the weights less the least one; at least 2^31 where a weight is less than that.
     weights: u32,
@@ -123,7 +130,7 @@ impl Seen {
             sum: 0,
             next: first,
         };
-        let (groups, rest) = buckets.as_chunks::<4>();
+        let (groups, rest) = buckets.as_chunks::<10>();
         for group in groups {
             seen.bits |= group[0][0] | group[0][1];
             for bucket in group {

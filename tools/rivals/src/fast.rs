@@ -19,7 +19,7 @@ impl Calls for Fast {
                 && (0..).zip(levels).all(|(index, level)| {
                     level.is_sound(total, are_zero, |used| match index {
                         0 => ticks(shape, level, used, &mut heaviest),
-                        _ => spans(shape, index, level, used, heaviest >= (2 << index) - 1),
+                        _ => spans(shape, index, level, used, total, heaviest),
                     })
                 })
         })
@@ -76,26 +76,45 @@ fn ticks(shape: Shape, level: Level, buckets: &[Slot], heaviest: &mut u32) -> Op
 }
 
 /// Level i from 1 on: buckets that span all from the first offset on. Only buckets of one tick may
-/// have a weight of 2^(i+1) or more. Where `heavy` expects none, the first run does not tell them
-/// apart; it stands if it saw none.
-fn spans(shape: Shape, index: u32, level: Level, buckets: &[Slot], heavy: bool) -> Option<u64> {
+/// have a weight of 2^(i+1) or more. The first run leaves out what `heaviest` tells to be needless:
+/// to tell heavy buckets apart, and the sum where its bound is within the total and nothing more is
+/// asked of it. It stands if its bits show the same.
+fn spans(
+    shape: Shape,
+    index: u32,
+    level: Level,
+    buckets: &[Slot],
+    total: u32,
+    heaviest: u32,
+) -> Option<u64> {
     let least = if buckets.len() > 1 { 1 << index } else { 0 };
     let above = (2 << index) - least;
-    let run = if heavy {
-        Seen::run::<true>
-    } else {
-        Seen::run::<false>
+    // No weight is more than the least one and all bits of the weights above it.
+    let bound = |bits: u32| (u64::from(least) + u64::from(bits)) * buckets.len() as u64;
+    let summed = |bits: u32| level.first == 0 || bound(bits) > total.into();
+    let (heavy, sum) = (heaviest >= 2 << index, summed(heaviest | (above - 1)));
+    let run = match (heavy, sum) {
+        (false, false) => Seen::run::<false, false>,
+        (false, true) => Seen::run::<false, true>,
+        (true, false) => Seen::run::<true, false>,
+        (true, true) => Seen::run::<true, true>,
     };
     let mut seen = run(level.first, least, above, buckets);
-    if !heavy && seen.weights >= above {
-        seen = Seen::run::<true>(level.first, least, above, buckets);
+    if !heavy && seen.weights >= above || !sum && summed(seen.weights) {
+        seen = Seen::run::<true, true>(level.first, least, above, buckets);
     }
     let sound = seen.faults == 0
         && seen.bits < WRAPPING
         && seen.weights < 2 << Shape::M_MAX
         && seen.next == 1 << shape.k()
         && buckets.first().is_some_and(|slot| slot[1] != 0);
-    sound.then(|| exact(buckets, seen.weights | least, seen.sum))
+    sound.then(|| {
+        if summed(seen.weights) {
+            exact(buckets, seen.weights | least, seen.sum)
+        } else {
+            bound(seen.weights)
+        }
+    })
 }
 
 /// No offset or length of a sound level is so large; of ten buckets up to 2^32 all are.
@@ -122,7 +141,12 @@ struct Seen {
 
 impl Seen {
     #[inline(never)]
-    fn run<const HEAVY: bool>(first: u32, least: u32, above: u32, buckets: &[Slot]) -> Seen {
+    fn run<const HEAVY: bool, const SUM: bool>(
+        first: u32,
+        least: u32,
+        above: u32,
+        buckets: &[Slot],
+    ) -> Seen {
         let mut seen = Seen {
             faults: 0,
             bits: 0,
@@ -134,18 +158,18 @@ impl Seen {
         for group in groups {
             seen.bits |= group[0][0] | group[0][1];
             for bucket in group {
-                seen.bucket::<HEAVY>(least, above, bucket);
+                seen.bucket::<HEAVY, SUM>(least, above, bucket);
             }
         }
         for bucket in rest {
             seen.bits |= bucket[0] | bucket[1];
-            seen.bucket::<HEAVY>(least, above, bucket);
+            seen.bucket::<HEAVY, SUM>(least, above, bucket);
         }
         seen
     }
 
     #[inline(always)]
-    fn bucket<const HEAVY: bool>(
+    fn bucket<const HEAVY: bool, const SUM: bool>(
         &mut self,
         least: u32,
         above: u32,
@@ -156,7 +180,9 @@ impl Seen {
         let both = offset | length;
         let extra = weight.wrapping_sub(least);
         self.weights |= extra;
-        self.sum = self.sum.wrapping_add(weight);
+        if SUM {
+            self.sum = self.sum.wrapping_add(weight);
+        }
         // A power of two that divides its offset; or both are 0, which only a first bucket can be.
         // It is 1 where the weight is heavy.
         let mask = if HEAVY && extra as i32 > above as i32 - 1 {

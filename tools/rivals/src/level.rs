@@ -28,7 +28,8 @@ impl<'a> Level<'a> {
     }
 
     /// Whether the level is sound under this total. `are_zero` is asked of the unused
-    /// slots; `buckets` is asked what only the level's index tells, and gives the sum of the weights.
+    /// slots; `buckets` is asked what only the level's index tells, and gives the sum of the weights;
+    /// where something was evicted, a bound of it within the total is as good.
     #[inline(always)]
     pub fn is_sound(
         self,
@@ -39,9 +40,10 @@ impl<'a> Level<'a> {
         let Some((used, unused)) = self.slots.split_at_checked(self.count as usize) else {
             return false;
         };
+        // In the order in which they lie.
         (self.first == 0 || unused.is_empty())
-            && are_zero(unused)
             && buckets(used).is_some_and(|sum| self.weighs(sum, total))
+            && are_zero(unused)
     }
 
     /// At most the total, and exactly it where nothing was evicted.

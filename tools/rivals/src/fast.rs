@@ -133,7 +133,7 @@ struct Seen {
     bits: u32,
     /// Bits of the weights less the least one; at least 2^31 where a weight is less than that.
     weights: u32,
-    /// The sum of the weights, modulo 2^32.
+    /// The sum of the weights, modulo 2^32; of a run without a sum it says nothing.
     sum: u32,
     /// Where the next bucket begins.
     next: u32,

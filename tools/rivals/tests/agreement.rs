@@ -164,6 +164,64 @@ fn grown_books_with_damaged_words() {
     assert!(refused > 2000 && accepted > 500, "{refused} {accepted}");
 }
 
+/// A book with many full levels of many buckets.
+fn full(random: &mut Random) -> (Shape, Vec<u32>) {
+    let shape = Shape::new(14, 173, 18, 1).unwrap();
+    let mut words = made(shape);
+    for clock in (0..30_000).step_by(15) {
+        Fast::clock(&mut words, clock).unwrap();
+        let stamp = clock - random.between(0, clock.min(40));
+        Fast::delivery(&mut words, 0, stamp, random.between(1, 150)).unwrap();
+    }
+    (shape, words)
+}
+
+#[test]
+fn full_levels_with_damaged_words() {
+    let mut random = Random::new(31);
+    let (_, words) = full(&mut random);
+    let (grade, window) = (0, 9000);
+    agree(&mut words.clone(), Call::Query { grade, window }).unwrap();
+    for _ in 0..1500 {
+        let mut damaged = words.clone();
+        if random.one_in(3) {
+            shift(&mut random, &mut damaged[8..]);
+        } else {
+            damage(&mut random, &mut damaged[8..]);
+        }
+        let _ = agree(&mut damaged, Call::Query { grade, window });
+    }
+}
+
+/// Where something was evicted, a tick may be as heavy as the total allows.
+#[test]
+fn full_levels_up_to_the_total() {
+    let (shape, words) = full(&mut Random::new(32));
+    let (grade, window) = (0, 9000);
+    let mut raised = 0;
+    for (parity, index) in [0, 1]
+        .into_iter()
+        .flat_map(|parity| (0..12).map(move |i| (parity, i)))
+    {
+        let total = words[shape.block(0)][parity];
+        let level = &words[shape.block(0)][shape.level(parity, index)];
+        let slots = level[2..].as_chunks::<3>().0;
+        let sum: u32 = slots.iter().map(|slot| slot[2]).sum();
+        let tick = slots.iter().rposition(|slot| slot[1] == 1);
+        let Some(tick) = tick.filter(|_| level[1] > 0) else {
+            continue;
+        };
+        for (by, sound) in [(total - sum, true), (total - sum + 1, false)] {
+            let mut changed = words.clone();
+            changed[shape.block(0)][shape.level(parity, index)][2 + 3 * tick + 2] += by;
+            let answer = agree(&mut changed, Call::Query { grade, window });
+            assert_eq!(answer.is_ok(), sound, "{parity} {index} {by}");
+            raised += 1;
+        }
+    }
+    assert!(raised > 20, "{raised}");
+}
+
 /// Any values that matter, on every word of a level that is otherwise sound.
 #[test]
 fn every_word_of_a_small_book() {

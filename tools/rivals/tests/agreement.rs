@@ -321,20 +321,24 @@ fn offsets_and_lengths_that_are_right_only_modulo_two_to_the_32() {
         let rest = spans.iter().rposition(|span| span[0] == 0).unwrap();
         assert!(!refuses_spans(6, &spans[rest..]), "{again}");
     }
-    // Spans that double from any power on, after a few ticks or after one that begins at 0.
-    for power in 4..32 {
-        let doubled = (power..32).map(|bit| [1 << bit, 1 << bit]);
-        let whole = [[0, 1 << 6]];
+    // Spans that double from any power on, after a few ticks or after one that begins at 0; few or
+    // many buckets follow.
+    let many: Vec<_> = (0..1 << 7).map(|tick| [tick, 1]).collect();
+    for (sound, power) in [&[[0, 1 << 7]][..], &many]
+        .into_iter()
+        .flat_map(|sound| (4..32).map(move |power| (sound, power)))
+    {
+        let doubled: Vec<_> = (power..32).map(|bit| [1 << bit, 1 << bit]).collect();
         for ticks in 0..12 {
             let from = 1 << power;
-            let before = (from - ticks..from).map(|tick| [tick, 1]);
-            let spans: Vec<_> = before.chain(doubled.clone()).chain(whole).collect();
-            assert!(refuses_spans(6, &spans), "{power} {ticks}");
+            let before: Vec<_> = (from - ticks..from).map(|tick| [tick, 1]).collect();
+            let spans = [&before[..], &doubled, sound].concat();
+            assert!(refuses_spans(7, &spans), "{power} {ticks}");
         }
-        let first = [[0, 1 << power]];
-        let spans: Vec<_> = first.into_iter().chain(doubled).chain(whole).collect();
-        assert!(refuses_spans(6, &spans), "{power}");
+        let spans = [&[[0, 1 << power]][..], &doubled, sound].concat();
+        assert!(refuses_spans(7, &spans), "{power}");
     }
+    assert!(!refuses_spans(7, &many));
 }
 
 #[test]

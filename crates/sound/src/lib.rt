@@ -216,11 +216,11 @@ fn add_rest(sum: u32, level: &[u32], from: usize, count: usize) -> u32
     ensures { λ r. ⌜ r ≡ (sum + weightOf (slots (now (level .entry)) from (count - from))) % 2 ^ 32 ⌝ }
 {
     let mut all = sum;
-    let mut next = from;
-    while next < count {
-        let b = slot_at(level, next);
+    let mut at = from;
+    while at < count {
+        let b = slot_at(level, at);
         all = std::num::wrapping_add_u32(all, b.weight);
-        next += 1;
+        at += 1;
     }
     all
 }

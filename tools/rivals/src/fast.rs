@@ -92,16 +92,19 @@ fn spans(
     // No weight is more than the least one and all bits of the weights above it.
     let bound = |bits: u32| (u64::from(least) + u64::from(bits)) * buckets.len() as u64;
     let summed = |bits: u32| level.first == 0 || bound(bits) > total.into();
-    let (heavy, sum) = (heaviest >= 2 << index, summed(heaviest | (above - 1)));
+    let few = buckets.len() < FEW;
+    let heavy = few || heaviest >= 2 << index;
+    let sum = few || summed(heaviest | (above - 1));
     let run = match (heavy, sum) {
-        (false, false) => Seen::run::<false, false>,
-        (false, true) => Seen::run::<false, true>,
-        (true, false) => Seen::run::<true, false>,
-        (true, true) => Seen::run::<true, true>,
+        (false, false) => Seen::run::<false, false, 10>,
+        (false, true) => Seen::run::<false, true, 10>,
+        (true, false) => Seen::run::<true, false, 10>,
+        (true, true) if few => Seen::run::<true, true, 4>,
+        (true, true) => Seen::run::<true, true, 10>,
     };
     let mut seen = run(level.first, least, above, buckets);
     if !heavy && seen.weights >= above || !sum && summed(seen.weights) {
-        seen = Seen::run::<true, true>(level.first, least, above, buckets);
+        seen = Seen::run::<true, true, 10>(level.first, least, above, buckets);
     }
     let sound = seen.faults == 0
         && seen.bits < WRAPPING
@@ -117,6 +120,9 @@ fn spans(
     })
 }
 
+/// Fewer buckets go in fours, of which a vector takes sixteen, and not in tens.
+const FEW: usize = 100;
+
 /// No offset or length of a sound level is so large; of ten buckets up to 2^32 all are.
 const WRAPPING: u32 = 4 << Shape::K_MAX;
 
@@ -125,7 +131,7 @@ struct Seen {
     /// Not zero where a condition fails.
     faults: u32,
     /// Bits of offsets and lengths, which show whether a sum of the two can have wrapped. It is enough
-    /// to look at one bucket in ten, the first among them, if there is no fault and the first length
+    /// to look at one bucket in ten or fewer, the first among them, if there is no fault and the first length
     /// is not 0. Then a length divides its offset, and until a sum wraps only the first bucket begins
     /// at 0: from the second on an offset at most doubles, so that of the buckets that reach 2^32 the
     /// last ten begin at 2^22 or above. Where they are fewer, the first is one of them, and begins
@@ -141,7 +147,7 @@ struct Seen {
 
 impl Seen {
     #[inline(never)]
-    fn run<const HEAVY: bool, const SUM: bool>(
+    fn run<const HEAVY: bool, const SUM: bool, const GROUP: usize>(
         first: u32,
         least: u32,
         above: u32,
@@ -154,7 +160,7 @@ impl Seen {
             sum: 0,
             next: first,
         };
-        let (groups, rest) = buckets.as_chunks::<10>();
+        let (groups, rest) = buckets.as_chunks::<GROUP>();
         for group in groups {
             seen.bits |= group[0][0] | group[0][1];
             for bucket in group {

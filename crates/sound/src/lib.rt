@@ -14,7 +14,7 @@ use words::wide;
 ghost use mathlib.Core.Path.{_≡_};
 ghost use mathlib.Core.Bool.{_&&_};
 ghost use Prim.Native.Nat.{_+_, _-_, _*_, _/_, _%_, _^_, _<_, _≤_};
-ghost use lib.Dec.{eqb};
+ghost use lib.Dec.{leb, eqb};
 ghost use lib.ListN.{length, getD, drop};
 ghost use Rattle.shape.specs.Layout.{levelWords};
 ghost use Rattle.model.specs.Words.{slots};
@@ -293,17 +293,31 @@ fn judge(level: &[u32], count: usize, k: u8, i: u8) -> Verdict
     judge_seen(level, count, k, i)
 }
 
+// Whether so many weights, each at most `extra` above `least`, are at most the total together.
+fn is_bounded(least: u32, extra: u32, count: usize, total: u64) -> bool
+    requires { ⌜ count ≤ 1024 ⌝ }
+    ensures { λ r. ⌜ r ≡ leb ((least + extra) * count) total ⌝ }
+{
+    let top = long(least) + long(extra);
+    top * count as u64 <= total
+}
+
 // Whether a quick pass tells that the buckets are sound and weigh at most the total, by the largest weight that it may have seen: no
-// weight is added. Where it does not tell, that is left open.
+// weight is added. Where it does not tell, that is left open; it is not tried where weights up to twice the least are too many.
 fn is_within(level: &[u32], count: usize, k: u8, i: u8, total: u64) -> bool
     requires { ⌜ (2 + 3 * count ≤ length (now level)) × (count ≤ 1024) × (k ≤ 20) × (i ≤ 24) ⌝ }
     ensures { λ r. ⌜ Within k i (getD (now (level .entry)) 1 0) total (slots (now (level .entry)) 0 count) r ⌝ }
 {
     if is_tried(count, i) {
         let low = least(count, i);
-        let t = quick_buckets(level, count, low, most(count, i));
-        let top = long(low) + long(t.extra);
-        return both(is_enough(t, level[1], k), top * count as u64 <= total);
+        let high = most(count, i);
+        if is_bounded(low, high, count, total) {
+            let t = quick_buckets(level, count, low, high);
+            return both(
+                is_enough(t, level[1], k),
+                is_bounded(low, t.extra, count, total),
+            );
+        }
     }
     false
 }

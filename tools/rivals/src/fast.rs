@@ -131,11 +131,11 @@ struct Seen {
     /// Not zero where a condition fails.
     faults: u32,
     /// Bits of offsets and lengths, which show whether a sum of the two can have wrapped. It is enough
-    /// to look at one bucket in ten or fewer, the first among them, if there is no fault and the first length
-    /// is not 0. Then a length divides its offset, and until a sum wraps only the first bucket begins
-    /// at 0: from the second on an offset at most doubles, so that of the buckets that reach 2^32 the
-    /// last ten begin at 2^22 or above. Where they are fewer, the first is one of them, and begins
-    /// there too or has a length as large as the offset of the second.
+    /// to look at one bucket in ten or fewer, the first among them, if there is no fault and the first
+    /// length is not 0. Then a length divides its offset, and until a sum wraps only the first bucket
+    /// begins at 0: from the second on an offset at most doubles, so that of the buckets that reach
+    /// 2^32 the last ten begin at 2^22 or above. Where they are fewer, the first is one of them, and
+    /// begins there too or has a length as large as the offset of the second.
     bits: u32,
     /// Bits of the weights less the least one; at least 2^31 where a weight is less than that.
     weights: u32,

@@ -1,3 +1,1 @@
-pub mod Quick
-pub mod QuickLaws
 pub mod Zeros

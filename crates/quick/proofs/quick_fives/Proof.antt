@@ -1,0 +1,101 @@
+-- Invariant: what is seen and then the slots from `at` on come to what all slots do; `rest` starts at slot `at`.
+use Prim.Native.Nat.{_+_, _-_, _≤_}
+use native.Mathlib.Omega.{arith}
+use lib.ListN.{length}
+use borrow.Author.Needs.{needs}
+use Rattle.quick.specs.QuickLaws.{Fives, fives-start, fives-room, fives-next, fives-end}
+use Rattle.quick.proofs.quick_fives.Statement.{statement}
+use Rattle.quick.proofs.quick_fives.Tie as tie
+
+abbrev Inv-loop : tie.InvT-loop
+Inv-loop level count least most t₀ rest₀ at₀ t rest at = Fives least most level count t rest at
+
+abbrev μ-loop : tie.MeasureT-loop
+μ-loop level count least most t₀ rest₀ at₀ t rest at = count - at
+
+shared-slice-read-begin : tie.Need-shared-slice-read-begin Inv-loop μ-loop
+shared-slice-read-begin c = search needs
+
+shared-slice-read-begin-2 : tie.Need-shared-slice-read-begin-2 Inv-loop μ-loop
+shared-slice-read-begin-2 c = search needs
+
+begin-requires : tie.Need-begin-requires Inv-loop μ-loop
+begin-requires c κs = search needs
+
+sub-rest : tie.Need-sub-rest Inv-loop μ-loop
+sub-rest c = search needs
+
+part-rest-start : tie.Need-part-rest-start Inv-loop μ-loop
+part-rest-start c = search needs
+
+part-rest-end : tie.Need-part-rest-end Inv-loop μ-loop
+part-rest-end c = search needs
+
+loop-holds : tie.Need-loop-holds Inv-loop μ-loop
+loop-holds c =
+    let a = c .before .before .before .before .before .args in
+    rw (c .before .begin .ensures) (fives-start (a .least) (a .most) (a .level .now) (a .count) (omega arith))
+
+add-loop : tie.Need-add-loop Inv-loop μ-loop
+add-loop c = search needs
+
+-- five slots are left at the front
+left : (c : tie.At-loop Inv-loop μ-loop) → c .loop .at + 5 ≤ c .before .before .before .before .before .before .args .count → 15 ≤ length (c .loop .rest .now)
+left c more =
+    let a = c .before .before .before .before .before .before .args in
+    let l = c .loop in
+    fives-room (a .least) (a .most) (a .level .now) (a .count) (l .t) (l .rest .now) (l .at) (l .inv) (omega arith) more
+
+quick-five-requires : tie.Need-quick-five-requires Inv-loop μ-loop
+quick-five-requires c κs = left (c .before) (c .loop-test .taken)
+
+sub-rest-2 : tie.Need-sub-rest-2 Inv-loop μ-loop
+sub-rest-2 c = left (c .before .before) (c .before .loop-test .taken)
+
+part-rest-start-2 : tie.Need-part-rest-start-2 Inv-loop μ-loop
+part-rest-start-2 c = left (c .before .before) (c .before .loop-test .taken)
+
+part-rest-end-2 : tie.Need-part-rest-end-2 Inv-loop μ-loop
+part-rest-end-2 c = search needs
+
+add-at : tie.Need-add-at Inv-loop μ-loop
+add-at c = search needs
+
+loop-less : tie.Need-loop-less Inv-loop μ-loop
+loop-less c = search needs
+
+loop-again : tie.Need-loop-again Inv-loop μ-loop
+loop-again c =
+    let l = c .before .before .before in
+    let a = l .before .before .before .before .before .before .args in
+    rw (c .before .quick-five .ensures)
+    (fives-next (a .least) (a .most) (a .level .now) (a .count) (l .loop .t) (l .loop .rest .now) (l .loop .at) (l .loop .inv) (c .before .before .loop-test .taken))
+
+returns : tie.Need-returns Inv-loop μ-loop
+returns c =
+    let l = c .before in
+    let a = l .before .before .before .before .before .before .args in
+    rw (fives-end (a .least) (a .most) (a .level .now) (a .count) (l .loop .t) (l .loop .rest .now) (l .loop .at) (l .loop .inv) (omega (arith, c .loop-test .left))) at (l .loop .inv .3)
+
+pub quick-fives-spec : {M : Type 1} → statement M
+quick-fives-spec =
+    tie.close
+    (tie.spec
+    Inv-loop
+    μ-loop
+    shared-slice-read-begin
+    shared-slice-read-begin-2
+    begin-requires
+    sub-rest
+    part-rest-start
+    part-rest-end
+    loop-holds
+    add-loop
+    quick-five-requires
+    sub-rest-2
+    part-rest-start-2
+    part-rest-end-2
+    add-at
+    loop-less
+    loop-again
+    returns)

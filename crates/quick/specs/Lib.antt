@@ -1,2 +1,4 @@
 pub mod Quick
 pub mod QuickLaws
+pub mod Rows
+pub mod RowsLaws

@@ -2,7 +2,7 @@
 use mathlib.Core.Bool.{Bool, true, cond, _&&_}
 use mathlib.Core.List.{List, [], _∷_}
 use mathlib.Core.Path.{_≡_}
-use Prim.Native.Nat.{ℕ, zero, suc, _+_, _-_, _/_, _%_, _^_, _≤_}
+use Prim.Native.Nat.{ℕ, suc, _+_, _-_, _/_, _%_, _^_, _≤_}
 use lib.Bits.{bitAnd, bitOr, bitXor}
 use lib.Dec.{leb, ltb, eqb}
 use Rattle.model.specs.Level.{Bucket}
@@ -40,18 +40,9 @@ quickAll least most t (b ∷ bs) = quickAll least most (quickBucket least most t
 abbrev pub marked : Quick → Quick  -- what is seen so far has ended at a number that must be within reach
 marked t = record { end = t .end; faults = t .faults; reach = bitOr (t .reach) (t .end); extra = t .extra }
 
--- all buckets, with a mark after every fifth; `left` more come before the next of those
-abbrev pub quickRun : ℕ → ℕ → ℕ → Quick → List Bucket → Quick
-quickRun least most left t [] = t
-quickRun least most zero t (b ∷ bs) = quickRun least most 4 (marked (quickBucket least most t b)) bs
-quickRun least most (suc left) t (b ∷ bs) = quickRun least most left (quickBucket least most t b) bs
-
-abbrev pub firstWidth : List Bucket → ℕ  -- the length of the first bucket
-firstWidth [] = 0
-firstWidth (b ∷ bs) = b .width
-
-abbrev pub quickWhole : ℕ → ℕ → ℕ → List Bucket → Quick  -- a level's buckets, of which the first is to start at `first`
-quickWhole least most first bs = quickRun least most 4 (fresh first (firstWidth bs)) bs
+abbrev pub quickEach : ℕ → ℕ → Quick → List Bucket → Quick  -- all buckets, each end marked
+quickEach least most t [] = t
+quickEach least most t (b ∷ bs) = quickEach least most (marked (quickBucket least most t b)) bs
 
 abbrev pub mostOf : ℕ → ℕ → ℕ  -- what the weight of a bucket longer than 1, of `count` buckets, has at most above the least one
 mostOf count i = cond (leb 2 count) (2 ^ i - 1) (2 ^ suc i - 1)

@@ -8,15 +8,17 @@ use words::long;
 use words::power;
 use words::slot_at;
 use words::slot_from;
+ghost use mathlib.Core.Bool.{_&&_};
 ghost use mathlib.Core.Path.{_≡_};
 ghost use Prim.Native.Nat.{_+_, _-_, _*_, _/_, _%_, _^_, _<_, _≤_};
-ghost use lib.Dec.{leb};
+ghost use lib.Dec.{leb, eqb};
 ghost use lib.ListN.{length, getD};
 ghost use Rattle.model.specs.Words.{slots};
 ghost use Rattle.model.specs.Sound.{weightOf};
-ghost use Rattle.words.specs.Slot.{content, fronts};
+ghost use Rattle.words.specs.Slot.{content};
 ghost use Rattle.pass.specs.Pass.{Judged};
-ghost use Rattle.quick.specs.Quick.{fresh, over, quickBucket, quickAll, marked, quickRun, quickWhole, mostOf, enough, tried, Within};
+ghost use Rattle.quick.specs.Quick.{fresh, over, quickBucket, marked, quickEach, mostOf, enough, tried, Within};
+ghost use Rattle.quick.specs.Rows.{opened, rowSlots, row, ending, seam, turn, turnWeight, begun, joined, ReadRows, ByRows};
 
 // What a quick pass over the buckets of a level from 1 on has collected. Its tests are fewer, and ask more than soundness does: where
 // they fail, the other pass decides.
@@ -25,7 +27,7 @@ struct Quick {
     end: u32,
     // Bits that must be 0.
     faults: u32,
-    // The bits of numbers that must be below 2 ^ (k + 1): every fifth end, and the number before the first length.
+    // The bits of numbers that must be below 2 ^ (k + 1): ends that are marked, and the number before the first length.
     reach: u32,
     // The bits of what each weight is above the least one.
     extra: u32,
@@ -72,8 +74,7 @@ fn quick_bucket(t: Quick, b: Slot, least: u32, most: u32) -> Quick
     }
 }
 
-// An offset is a multiple of its length, so that an end past 0 is at most twice as large as the one before it: it is enough to look at
-// every fifth to see that none wraps.
+// The end is to be within reach, so that it has not wrapped.
 fn mark(t: Quick) -> Quick
     ensures { λ r. ⌜ r ≡ marked t ⌝ }
 {
@@ -85,95 +86,213 @@ fn mark(t: Quick) -> Quick
     }
 }
 
-// The five slots at the front of words: a loop over fives is compiled to read twenty slots at once.
-fn quick_five(t: Quick, rest: &[u32], least: u32, most: u32) -> Quick
-    requires { ⌜ 15 ≤ length (now rest) ⌝ }
-    ensures { λ r. ⌜ r ≡ quickRun least most 4 t (fronts (now (rest .entry))) ⌝ }
-{
-    let one = quick_bucket(t, slot_from(rest, 0), least, most);
-    let two = quick_bucket(one, slot_from(rest, 3), least, most);
-    let three = quick_bucket(two, slot_from(rest, 6), least, most);
-    let four = quick_bucket(three, slot_from(rest, 9), least, most);
-    mark(quick_bucket(four, slot_from(rest, 12), least, most))
-}
-
-// The slots in fives, as far as they go.
-fn quick_fives(level: &[u32], count: usize, least: u32, most: u32) -> Quick
-    requires { ⌜ (2 + 3 * count ≤ length (now level)) × (count ≤ 1024) × (0 < count) ⌝ }
-    ensures { λ r. ⌜ quickRun least most 4 r (slots (now (level .entry)) (count / 5 * 5) (count - count / 5 * 5))
-        ≡ quickWhole least most (getD (now (level .entry)) 1 0) (slots (now (level .entry)) 0 count) ⌝ }
-{
-    let mut t = begin(level[1], level[3]);
-    let mut rest = &level[2..];
-    let mut at: usize = 0;
-    while at + 5 <= count {
-        t = quick_five(t, rest, least, most);
-        rest = &rest[15..];
-        at += 5;
-    }
-    t
-}
-
-// The slots from `from` on, which are too few for a five.
+// The slots from `from` on, one by one.
 fn quick_rest(t: Quick, level: &[u32], from: usize, count: usize, least: u32, most: u32) -> Quick
     requires { ⌜ (2 + 3 * count ≤ length (now level)) × (count ≤ 1024) ⌝ }
-    ensures { λ r. ⌜ r ≡ quickAll least most t (slots (now (level .entry)) from (count - from)) ⌝ }
+    ensures { λ r. ⌜ r ≡ quickEach least most t (slots (now (level .entry)) from (count - from)) ⌝ }
 {
     let mut seen = t;
     let mut next = from;
     while next < count {
-        seen = quick_bucket(seen, slot_at(level, next), least, most);
+        seen = mark(quick_bucket(seen, slot_at(level, next), least, most));
         next += 1;
     }
     seen
 }
 
+// What a quick pass has collected in four rows of slots at once, each for itself.
+struct Rows {
+    one: Quick,
+    two: Quick,
+    three: Quick,
+    four: Quick,
+    // Bits that must be 0: of where a row is to start and of where it does.
+    gap: u32,
+    // Where the next bucket is to start.
+    end: u32,
+}
+
+// A row is to start where it does. An end at most doubles from bucket to bucket, so that with each row's first offset within reach none
+// of its ends wraps.
+fn open_row(t: Quick, offset: u32) -> Quick
+    ensures { λ r. ⌜ r ≡ opened t offset ⌝ }
+{
+    Quick {
+        end: offset,
+        faults: t.faults,
+        reach: t.reach | offset,
+        extra: t.extra,
+    }
+}
+
+// The four slots from word `at` on.
+fn quick_row(t: Quick, rest: &[u32], at: usize, least: u32, most: u32) -> Quick
+    requires { ⌜ at + 12 ≤ length (now rest) ⌝ }
+    ensures { λ r. ⌜ r ≡ row least most t (now (rest .entry)) at ⌝ }
+{
+    let none = open_row(t, rest[at]);
+    let one = quick_bucket(none, slot_from(rest, at), least, most);
+    let two = quick_bucket(one, slot_from(rest, at + 3), least, most);
+    let three = quick_bucket(two, slot_from(rest, at + 6), least, most);
+    quick_bucket(three, slot_from(rest, at + 9), least, most)
+}
+
+// Where the bucket at word `at` ends.
+fn end_at(rest: &[u32], at: usize) -> u32
+    requires { ⌜ at + 2 ≤ length (now rest) ⌝ }
+    ensures { λ r. ⌜ r ≡ ending (now (rest .entry)) at ⌝ }
+{
+    std::num::wrapping_add_u32(rest[at], rest[at + 1])
+}
+
+// No bit where the bucket at word `at` ends at the offset of the next.
+fn seam_at(rest: &[u32], at: usize) -> u32
+    requires { ⌜ at + 4 ≤ length (now rest) ⌝ }
+    ensures { λ r. ⌜ r ≡ seam (now (rest .entry)) at ⌝ }
+{
+    end_at(rest, at) ^ rest[at + 3]
+}
+
+// Four rows of four slots: the compiler reads a row's words whole and works on the four rows at once.
+fn quick_turn(t: Rows, rest: &[u32], least: u32, most: u32) -> Rows
+    requires { ⌜ 48 ≤ length (now rest) ⌝ }
+    ensures { λ r. ⌜ r ≡ turn least most t (now (rest .entry)) ⌝ }
+{
+    let one = t.one;
+    let two = t.two;
+    let three = t.three;
+    let four = t.four;
+    Rows {
+        one: quick_row(one, rest, 0, least, most),
+        two: quick_row(two, rest, 12, least, most),
+        three: quick_row(three, rest, 24, least, most),
+        four: quick_row(four, rest, 36, least, most),
+        gap: t.gap | (t.end ^ rest[0]) | seam_at(rest, 9) | seam_at(rest, 21) | seam_at(rest, 33),
+        end: end_at(rest, 45),
+    }
+}
+
+// Before the first bucket, which has this length.
+fn begin_rows(first: u32, width: u32) -> Rows
+    ensures { λ r. ⌜ r ≡ begun first width ⌝ }
+{
+    Rows {
+        one: begin(first, width),
+        two: begin(0, 1),
+        three: begin(0, 1),
+        four: begin(0, 1),
+        gap: 0,
+        end: first,
+    }
+}
+
+// Whether sixteen slots more are read at once. Where rows do not join the buckets are unsound, and a loop that may end there is not
+// taken by the compiler for one over single words, which would be slower.
+fn goes_on(t: Rows, at: usize, count: usize) -> bool
+    requires { ⌜ at ≤ 1024 ⌝ }
+    ensures { λ r. ⌜ r ≡ (leb (at + 16) count && eqb (t .gap) 0) ⌝ }
+{
+    both(at + 16 <= count, t.gap == 0)
+}
+
+// Rows, and how many slots they have read.
+struct Turned {
+    rows: Rows,
+    at: usize,
+}
+
+// The slots by sixteen.
+fn quick_turns(level: &[u32], count: usize, least: u32, most: u32) -> Turned
+    requires { ⌜ (2 + 3 * count ≤ length (now level)) × (count ≤ 1024) × (0 < count) ⌝ }
+    ensures { λ r. ⌜ ReadRows least most (now (level .entry)) count (r .rows) (r .at) ⌝ }
+{
+    let mut t = begin_rows(level[1], level[3]);
+    let mut rest = &level[2..];
+    let mut at: usize = 0;
+    while goes_on(t, at, count) {
+        t = quick_turn(t, rest, least, most);
+        rest = &rest[48..];
+        at += 16;
+    }
+    Turned { rows: t, at: at }
+}
+
+// What all rows have collected.
+fn join(t: Rows) -> Quick
+    ensures { λ r. ⌜ r ≡ joined t ⌝ }
+{
+    let one = t.one;
+    let two = t.two;
+    let three = t.three;
+    let four = t.four;
+    Quick {
+        end: t.end,
+        faults: one.faults | two.faults | three.faults | four.faults | t.gap,
+        reach: one.reach | two.reach | three.reach | four.reach | t.end,
+        extra: one.extra | two.extra | three.extra | four.extra,
+    }
+}
+
 fn quick_buckets(level: &[u32], count: usize, least: u32, most: u32) -> Quick
     requires { ⌜ (2 + 3 * count ≤ length (now level)) × (count ≤ 1024) × (0 < count) ⌝ }
-    ensures { λ r. ⌜ r ≡ quickWhole least most (getD (now (level .entry)) 1 0) (slots (now (level .entry)) 0 count) ⌝ }
+    ensures { λ r. ⌜ ByRows least most (now (level .entry)) count r ⌝ }
 {
-    let t = quick_fives(level, count, least, most);
-    quick_rest(t, level, count / 5 * 5, count, least, most)
+    let turned = quick_turns(level, count, least, most);
+    let rows = turned.rows;
+    quick_rest(join(rows), level, turned.at, count, least, most)
+}
+
+// The weights of the four slots from word `at` on, added to a sum.
+fn add_row(sum: u32, rest: &[u32], at: usize) -> u32
+    requires { ⌜ at + 12 ≤ length (now rest) ⌝ }
+    ensures { λ r. ⌜ r ≡ (sum + weightOf (rowSlots (now (rest .entry)) at)) % 2 ^ 32 ⌝ }
+{
+    let one = std::num::wrapping_add_u32(sum, rest[at + 2]);
+    let two = std::num::wrapping_add_u32(one, rest[at + 5]);
+    let three = std::num::wrapping_add_u32(two, rest[at + 8]);
+    std::num::wrapping_add_u32(three, rest[at + 11])
+}
+
+// The weights of sixteen slots, added to a sum.
+fn add_turn(sum: u32, rest: &[u32]) -> u32
+    requires { ⌜ 48 ≤ length (now rest) ⌝ }
+    ensures { λ r. ⌜ r ≡ (sum + turnWeight (now (rest .entry))) % 2 ^ 32 ⌝ }
+{
+    let one = add_row(sum, rest, 0);
+    let two = add_row(one, rest, 12);
+    let three = add_row(two, rest, 24);
+    add_row(three, rest, 36)
 }
 
 // A quick pass that has also added the weights.
 struct Weighed {
-    seen: Quick,
+    turned: Turned,
     // The sum of the weights, up to a multiple of 2 ^ 32.
     sum: u32,
 }
 
-// The weights of the five slots at the front of words, added to a sum.
-fn add_five(sum: u32, rest: &[u32]) -> u32
-    requires { ⌜ 15 ≤ length (now rest) ⌝ }
-    ensures { λ r. ⌜ r ≡ (sum + weightOf (fronts (now (rest .entry)))) % 2 ^ 32 ⌝ }
-{
-    let one = std::num::wrapping_add_u32(sum, rest[2]);
-    let two = std::num::wrapping_add_u32(one, rest[5]);
-    let three = std::num::wrapping_add_u32(two, rest[8]);
-    let four = std::num::wrapping_add_u32(three, rest[11]);
-    std::num::wrapping_add_u32(four, rest[14])
-}
-
-// As `quick_fives`, and the weights are added.
-fn weigh_fives(level: &[u32], count: usize, least: u32, most: u32) -> Weighed
+// As `quick_turns`, and the weights are added.
+fn weigh_turns(level: &[u32], count: usize, least: u32, most: u32) -> Weighed
     requires { ⌜ (2 + 3 * count ≤ length (now level)) × (count ≤ 1024) × (0 < count) ⌝ }
-    ensures { λ r. ⌜ (quickRun least most 4 (r .seen) (slots (now (level .entry)) (count / 5 * 5) (count - count / 5 * 5))
-        ≡ quickWhole least most (getD (now (level .entry)) 1 0) (slots (now (level .entry)) 0 count))
-        × ((r .sum + weightOf (slots (now (level .entry)) (count / 5 * 5) (count - count / 5 * 5))) % 2 ^ 32
+    ensures { λ r. ⌜ ReadRows least most (now (level .entry)) count (r .turned .rows) (r .turned .at)
+        × ((r .sum + weightOf (slots (now (level .entry)) (r .turned .at) (count - r .turned .at))) % 2 ^ 32
         ≡ weightOf (slots (now (level .entry)) 0 count) % 2 ^ 32) ⌝ }
 {
-    let mut t = begin(level[1], level[3]);
+    let mut t = begin_rows(level[1], level[3]);
     let mut sum: u32 = 0;
     let mut rest = &level[2..];
     let mut at: usize = 0;
-    while at + 5 <= count {
-        t = quick_five(t, rest, least, most);
-        sum = add_five(sum, rest);
-        rest = &rest[15..];
-        at += 5;
+    while goes_on(t, at, count) {
+        t = quick_turn(t, rest, least, most);
+        sum = add_turn(sum, rest);
+        rest = &rest[48..];
+        at += 16;
     }
-    Weighed { seen: t, sum: sum }
+    let turned = Turned { rows: t, at: at };
+    Weighed {
+        turned: turned,
+        sum: sum,
+    }
 }
 
 // The weights of the slots from `from` on, added to a sum.
@@ -191,15 +310,23 @@ fn add_rest(sum: u32, level: &[u32], from: usize, count: usize) -> u32
     all
 }
 
-fn weigh_buckets(level: &[u32], count: usize, least: u32, most: u32) -> Weighed
+// The weight of the buckets up to a multiple of 2 ^ 32, and what a quick pass has collected.
+struct Sum {
+    seen: Quick,
+    sum: u32,
+}
+
+fn weigh_buckets(level: &[u32], count: usize, least: u32, most: u32) -> Sum
     requires { ⌜ (2 + 3 * count ≤ length (now level)) × (count ≤ 1024) × (0 < count) ⌝ }
-    ensures { λ r. ⌜ (r .seen ≡ quickWhole least most (getD (now (level .entry)) 1 0) (slots (now (level .entry)) 0 count))
+    ensures { λ r. ⌜ ByRows least most (now (level .entry)) count (r .seen)
         × (r .sum ≡ weightOf (slots (now (level .entry)) 0 count) % 2 ^ 32) ⌝ }
 {
-    let w = weigh_fives(level, count, least, most);
-    let from = count / 5 * 5;
-    Weighed {
-        seen: quick_rest(w.seen, level, from, count, least, most),
+    let w = weigh_turns(level, count, least, most);
+    let turned = w.turned;
+    let rows = turned.rows;
+    let from = turned.at;
+    Sum {
+        seen: quick_rest(join(rows), level, from, count, least, most),
         sum: add_rest(w.sum, level, from, count),
     }
 }

@@ -17,9 +17,6 @@ content b = bucketOf (b .offset) (b .width) (b .weight)
 abbrev pub front : List ℕ → Bucket  -- the slot at the front of words
 front ws = bucketOf (getD ws 0 0) (getD ws 1 0) (getD ws 2 0)
 
-abbrev pub fronts : List ℕ → List Bucket  -- the five slots at the front
-fronts ws = front ws ∷ (front (drop 3 ws) ∷ (front (drop 6 ws) ∷ (front (drop 9 ws) ∷ (front (drop 12 ws) ∷ []))))
-
 pub front-slot : (ws : List ℕ) (j : ℕ) → front (drop (2 + 3 * j) ws) ≡ slot ws j
 front-slot ws j = simp (getD-drop, add-zero)
 
@@ -28,7 +25,7 @@ pub part-all : (ws : List ℕ) (n : ℕ) → take (length ws - n) (drop n ws) �
 part-all ws n = take-all (length ws - n) (drop n ws) (omega (arith, length-drop n ws))
 
 -- words from `a` on, and then past n more
-moved : (rest ws : List ℕ) (a n : ℕ) → rest ≡ drop a ws → take (length rest - n) (drop n rest) ≡ drop (a + n) ws
+pub moved : (rest ws : List ℕ) (a n : ℕ) → rest ≡ drop a ws → take (length rest - n) (drop n rest) ≡ drop (a + n) ws
 moved rest ws a n e = part-all rest n ∙ ap (drop n) e ∙ drop-drop n a ws
 
 -- past slot j, slot j + 1 is at the front
@@ -36,34 +33,14 @@ pub front-moved : (rest ws : List ℕ) (j : ℕ) → rest ≡ drop (2 + 3 * j) w
 front-moved rest ws j e =
     moved rest ws (2 + 3 * j) 3 e ∙ ap (λ (n : ℕ). drop n ws) {x = 2 + 3 * j + 3} {y = 2 + 3 * (j + 1)} (omega arith)
 
--- past five slots from slot j on, slot j + 5 is
-pub fronts-moved : (rest ws : List ℕ) (j : ℕ) → rest ≡ drop (2 + 3 * j) ws
-    → take (length rest - 15) (drop 15 rest) ≡ drop (2 + 3 * (j + 5)) ws
-fronts-moved rest ws j e =
-    moved rest ws (2 + 3 * j) 15 e ∙ ap (λ (n : ℕ). drop n ws) {x = 2 + 3 * j + 15} {y = 2 + 3 * (j + 5)} (omega arith)
-
 -- the slot that starts n words after slot j
-front-at : (ws rest : List ℕ) (j n m : ℕ) → rest ≡ drop (2 + 3 * j) ws → n + 3 * j ≡ 3 * m → front (drop n rest) ≡ slot ws m
+pub front-at : (ws rest : List ℕ) (j n m : ℕ) → rest ≡ drop (2 + 3 * j) ws → n + 3 * j ≡ 3 * m → front (drop n rest) ≡ slot ws m
 front-at ws rest j n m e h =
     ap (λ (z : List ℕ). front (drop n z)) e ∙ ap front (drop-drop n (2 + 3 * j) ws)
     ∙ ap (λ (z : ℕ). front (drop z ws)) {x = 2 + 3 * j + n} {y = 2 + 3 * m} (omega (arith, h)) ∙ front-slot ws m
 
-cons-same : {b c : Bucket} {bs cs : List Bucket} → b ≡ c → bs ≡ cs → b ∷ bs ≡ c ∷ cs
+pub cons-same : {b c : Bucket} {bs cs : List Bucket} → b ≡ c → bs ≡ cs → b ∷ bs ≡ c ∷ cs
 cons-same {b} {c} {bs} {cs} p q = ap (λ (z : Bucket). z ∷ bs) p ∙ ap (λ (z : List Bucket). c ∷ z) q
-
--- the slots from slot j on are the five at the front and those after them
-pub slots-five : (ws rest : List ℕ) (j c : ℕ) → rest ≡ drop (2 + 3 * j) ws → j + 5 ≤ c
-    → slots ws j (c - j)
-    ≡ front rest ∷ (front (drop 3 rest) ∷ (front (drop 6 rest) ∷ (front (drop 9 rest) ∷ (front (drop 12 rest) ∷ slots ws (j + 5) (c - (j + 5))))))
-slots-five ws rest j c e h =
-    let left = c - (j + 5) in
-    ap (slots ws j) {x = c - j} {y = suc (suc (suc (suc (suc left))))} (omega arith)
-    ∙ cons-same (sym (ap front e ∙ front-slot ws j))
-    (cons-same (sym (front-at ws rest j 3 (j + 1) e (omega arith)))
-    (cons-same (sym (front-at ws rest j 6 (j + 1 + 1) e (omega arith)))
-    (cons-same (sym (front-at ws rest j 9 (j + 1 + 1 + 1) e (omega arith)))
-    (cons-same (sym (front-at ws rest j 12 (j + 1 + 1 + 1 + 1) e (omega arith)))
-    (ap (λ (z : ℕ). slots ws z left) {x = j + 1 + 1 + 1 + 1 + 1} {y = j + 5} (omega arith))))))
 
 -- where b was read at slot j, the slots from j on are b and those after it
 pub slots-read : (ws : List ℕ) (j c : ℕ) (b : Slot) → content b ≡ slot ws j → j < c

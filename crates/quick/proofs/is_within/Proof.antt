@@ -1,11 +1,14 @@
 -- A yes stands on a quick pass that is enough and on the largest weight that it may have seen.
 use mathlib.Core.Path.{sym, _∙_}
+use Prim.Native.Nat.{_+_, _*_, _≤_}
 use native.Mathlib.Omega.{arith}
 use borrow.Author.Needs.{needs}
 use borrow.Author.Tests.{leb-true}
 use Rattle.shape.specs.LimitsLaws.{both}
 use Rattle.laws.specs.Reflect.{never}
-use Rattle.quick.specs.QuickLaws.{tried-tests, seen-within}
+use Rattle.pass.specs.Pass.{leastOf}
+use Rattle.quick.specs.QuickLaws.{tried-tests}
+use Rattle.quick.specs.RowsLaws.{rows-enough}
 use Rattle.quick.proofs.is_within.Statement.{statement}
 use Rattle.quick.proofs.is_within.Tie as tie
 
@@ -46,12 +49,14 @@ returns c e =
     let m = q .before .before .before in
     let t = m .before .before .before in
     let a = t .before .before .args in
+    let ws = a .level .now in
     let p = both {a = c .before .before .is-enough .result} {b = c .before .is-bounded2 .result} (sym (c .both .ensures) ∙ e) in
-    let same = q .quick-buckets .ensures in
-    let tests = rw (c .before .before .is-enough .ensures, same, m .most .ensures, m .before .least .ensures) at (p .0) in
-    let bound = rw (c .before .is-bounded2 .ensures, same, m .most .ensures, m .before .least .ensures) at (p .1) in
-    seen-within (a .level .now) (a .count) (a .k) (a .i) (omega arith) (omega arith) (a .total)
-    (rw (t .is-tried .ensures) at (m .before .before .if1 .taken)) tests (leb-true _ _ bound)
+    let rows = rw (m .most .ensures, m .before .least .ensures) at (q .quick-buckets .ensures) in
+    let bound = rw (c .before .is-bounded2 .ensures, m .before .least .ensures) at (p .1) in
+    let h = rows-enough ws (a .count) (a .k) (omega arith) (a .i) (q .quick-buckets .result) (omega arith)
+    (rw (t .is-tried .ensures) at (m .before .before .if1 .taken)) rows (rw (c .before .before .is-enough .ensures) at (p .0)) in
+    let within : (leastOf (a .count) (a .i) + q .quick-buckets .result .extra) * a .count ≤ a .total = leb-true _ _ bound in
+    (h .0, omega (arith, h .1, within))
 
 returns-2 : tie.Need-returns-2
 returns-2 c e = never e

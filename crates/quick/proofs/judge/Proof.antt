@@ -1,12 +1,9 @@
 -- Where a quick pass is enough, its sum is the weight; else the other pass decides.
 use mathlib.Core.Path.{sym, _∙_}
-use Prim.Native.Nat.{_≤_}
-use lib.ListN.{length, getD}
 use native.Mathlib.Omega.{arith}
 use borrow.Author.Needs.{needs}
-use Rattle.model.specs.Words.{slots}
-use Rattle.laws.specs.LevelWords.{length-slots}
-use Rattle.quick.specs.QuickLaws.{tried-tests, seen-enough, enough-sound, enough-weight}
+use Rattle.quick.specs.QuickLaws.{tried-tests}
+use Rattle.quick.specs.RowsLaws.{rows-enough, rows-weight}
 use Rattle.quick.proofs.judge.Statement.{statement}
 use Rattle.quick.proofs.judge.Tie as tie
 
@@ -43,13 +40,13 @@ returns c =
     let t = m .before .before .before in
     let a = t .before .before .args in
     let ws = a .level .now in
-    let bs = slots ws 0 (a .count) in
-    let first = getD ws 1 0 in
-    let few : length bs ≤ 1024 = rw (length-slots ws 0 (a .count)) (omega arith) in
-    let tests = rw (d .is-enough .ensures, q .weigh-buckets .ensures .0, m .most .ensures, m .before .least .ensures) at (c .before .if2 .taken) in
-    let seen = seen-enough ws (a .count) (a .k) (a .i) (omega arith) (omega arith) (rw (t .is-tried .ensures) at (m .before .before .if1 .taken)) tests in (
-      c .long .ensures .0 ∙ q .weigh-buckets .ensures .1 ∙ enough-weight (a .k) first (omega arith) (a .i) bs few seen,
-      sym (enough-sound (a .k) first (omega arith) (a .i) bs seen),
+    let seen = q .weigh-buckets .result .seen in
+    let tries = rw (t .is-tried .ensures) at (m .before .before .if1 .taken) in
+    let rows = rw (m .most .ensures, m .before .least .ensures) at (q .weigh-buckets .ensures .0) in
+    let tests = rw (d .is-enough .ensures) at (c .before .if2 .taken) in (
+      c .long .ensures .0 ∙ q .weigh-buckets .ensures .1
+          ∙ rows-weight ws (a .count) (a .k) (omega arith) (a .i) seen (omega arith) (omega arith) tries rows tests,
+      sym (rows-enough ws (a .count) (a .k) (omega arith) (a .i) seen (omega arith) tries rows tests .0),
     )
 
 judge-seen-requires : tie.Need-judge-seen-requires

@@ -1,31 +1,34 @@
--- The fives and then the slots after them are all slots.
-use Prim.Native.Nat.{_-_, _*_, _/_, _≤_}
 use native.Mathlib.Omega.{arith}
-use lib.ListN.{length}
 use borrow.Author.Needs.{needs}
-use Rattle.model.specs.Words.{slots}
-use Rattle.laws.specs.LevelWords.{length-slots}
-use Rattle.quick.specs.QuickLaws.{few-left}
+use Rattle.quick.specs.RowsLaws.{rows-rest}
 use Rattle.quick.proofs.quick_buckets.Statement.{statement}
 use Rattle.quick.proofs.quick_buckets.Tie as tie
+use Rattle.quick.proofs.quick_buckets.Reads as reads
+use Rattle.quick.proofs.quick_buckets.Lts as lts
+use Rattle.quick.proofs.join.Reads as join-reads
+use Rattle.quick.proofs.quick_rest.Reads as quick-rest-reads
+use Rattle.quick.proofs.quick_turns.Reads as quick-turns-reads
 
-quick-fives-requires : tie.Need-quick-fives-requires
-quick-fives-requires c κs = search needs
+-- src/lib.rt:240:9
+quick-turns-requires : tie.Need-quick-turns-requires
+quick-turns-requires c κs = search needs
 
-mul-quick-rest : tie.Need-mul-quick-rest
-mul-quick-rest c = search needs
+-- src/lib.rt:242:16
+join-requires : tie.Need-join-requires
+join-requires c κs = search needs
 
+-- src/lib.rt:242:5
 quick-rest-requires : tie.Need-quick-rest-requires
 quick-rest-requires c κs = search needs
 
+-- src/lib.rt:236:1
 returns : tie.Need-returns
 returns c =
-    let a = c .before .before .before .args in
-    let from = a .count / 5 * 5 in
-    let rest = slots (a .level .now) from (a .count - from) in
-    let few : length rest ≤ 4 = rw (length-slots (a .level .now) from (a .count - from)) (omega arith) in
-    rw (c .quick-rest .ensures, few-left (a .least) (a .most) 4 (c .before .quick-fives .result) rest few) (c .before .quick-fives .ensures)
+    let q = c .before .before .before in
+    let a = q .before .before .args in
+    rows-rest (a .least) (a .most) (a .level .now) (a .count) (q .quick-turns .result .rows) (q .quick-turns .result .at) (c .before .join .result) _
+    (q .quick-turns .ensures) (c .before .join .ensures) (c .quick-rest .ensures)
 
 pub quick-buckets-spec : {M : Type 1} → statement M
 quick-buckets-spec =
-    tie.close (tie.spec quick-fives-requires mul-quick-rest quick-rest-requires returns)
+    tie.close (tie.spec quick-turns-requires join-requires quick-rest-requires returns)

@@ -6,7 +6,7 @@ use Prim.Native.Nat.{ℕ, suc, _+_, _-_, _/_, _%_, _^_, _≤_}
 use lib.Bits.{bitAnd, bitOr, bitXor}
 use lib.Dec.{leb, ltb, eqb}
 use Rattle.model.specs.Level.{Bucket}
-use Rattle.model.specs.Sound.{weightOf, soundBuckets}
+use Rattle.model.specs.Sound.{implies}
 use Rattle.pass.specs.Pass.{less, leastOf}
 use Rattle.quick.specs.declared.Quick.{Quick}
 
@@ -55,6 +55,6 @@ enough k first t = ltb first (2 ^ k) && (eqb (t .faults) 0 && (ltb (t .reach / 2
 unfoldable pub tried : ℕ → ℕ → Bool
 tried count i = ltb 0 i && (ltb 0 count && leb (leastOf count i) 1048576)
 
--- where the answer is yes, the buckets are sound and weigh at most the total; a no is undecided
-abbrev pub Within : ℕ → ℕ → ℕ → ℕ → List Bucket → Bool → Type 0
-Within k i first total bs r = r ≡ true → (soundBuckets k i first bs ≡ true) × (weightOf bs ≤ total)
+-- a level's weight is at most its half's total, and all of it where nothing was given up
+abbrev pub fits : ℕ → ℕ → ℕ → Bool
+fits first total weight = leb weight total && implies (eqb first 0) (eqb weight total)

@@ -6,7 +6,6 @@ use lib.Bits.{bitOr, bitXor}
 use lib.ListN.{getD, drop}
 use Rattle.model.specs.Level.{Bucket}
 use Rattle.model.specs.Words.{slots}
-use Rattle.model.specs.Sound.{weightOf}
 use Rattle.words.specs.Slot.{front}
 use Rattle.quick.specs.Quick.{fresh, quickAll, quickEach}
 use Rattle.quick.specs.declared.Quick.{Quick}
@@ -52,9 +51,6 @@ joined t = record {
   reach = bitOr (bitOr (bitOr (bitOr (t .one .reach) (t .two .reach)) (t .three .reach)) (t .four .reach)) (t .end);
   extra = bitOr (bitOr (bitOr (t .one .extra) (t .two .extra)) (t .three .extra)) (t .four .extra);
 }
-
-abbrev pub turnWeight : List ℕ → ℕ  -- the weight of sixteen slots
-turnWeight ws = weightOf (rowSlots ws 0) + (weightOf (rowSlots ws 12) + (weightOf (rowSlots ws 24) + weightOf (rowSlots ws 36)))
 
 -- the slots before slot `at` of a level's words were read by some turns; how many is left open
 pub record ReadRows (least most : ℕ) (ws : List ℕ) (count : ℕ) (t : Rows) (at : ℕ) : Type 0 where

@@ -10,7 +10,7 @@ use lib.Dec.{leb, eqb}
 use lib.ListN.{length, getD, take, drop, length-drop}
 use lib.Pow.{pow-mono}
 use lib.Seq.{getD-drop, drop-drop}
-use borrow.Author.Tests.{leb-true}
+use borrow.Author.Tests.{leb-true, le-leb, ne-eqb}
 use Rattle.shape.specs.LimitsLaws.{both}
 use Rattle.model.specs.Level.{Bucket}
 use Rattle.model.specs.Words.{slots}
@@ -21,9 +21,9 @@ use Rattle.words.specs.Slot.{front, front-at, cons-same, part-all, moved}
 use Rattle.words.specs.Bits.{or-none, or-least, xor-none}
 use Rattle.pass.specs.Pass.{leastOf}
 use Rattle.pass.specs.PassLaws.{reached}
-use Rattle.quick.specs.Quick.{quickAll, quickEach, mostOf, enough, tried}
+use Rattle.quick.specs.Quick.{quickAll, quickEach, mostOf, enough, tried, fits}
 use Rattle.quick.specs.QuickLaws.{Enough, Leads, Held, firstWidth, mark-inside, quick-end, all-before, each-before, all-held, each-held, enough-tests, tried-tests}
-use Rattle.quick.specs.Rows.{opened, rowSlots, row, ending, seam, turn, turns, begun, turnWeight, joined, ReadRows, ByRows}
+use Rattle.quick.specs.Rows.{opened, rowSlots, row, ending, seam, turn, turns, begun, joined, ReadRows, ByRows}
 use Rattle.quick.specs.declared.Quick.{Quick}
 use Rattle.quick.specs.declared.Rows.{Rows}
 
@@ -43,30 +43,6 @@ slots-row ws v base at j n c e h four room =
     (cons-same (sym (front-at ws v base (at + 6) (j + 1 + 1) e (omega (arith, h))))
     (cons-same (sym (front-at ws v base (at + 9) (j + 1 + 1 + 1) e (omega (arith, h))))
     (ap (λ (z : ℕ). slots ws z left) {x = j + 1 + 1 + 1 + 1} {y = n} (omega arith)))))
-
-word-at : (ws : List ℕ) (m n : ℕ) → m ≡ n → getD ws m 0 ≡ getD ws n 0
-word-at ws m n h = ap (λ (z : ℕ). getD ws z 0) h
-
--- the weight of a row
-pub row-weight : (ws : List ℕ) (at : ℕ)
-    → weightOf (rowSlots ws at) ≡ getD ws (at + 2) 0 + getD ws (at + 5) 0 + getD ws (at + 8) 0 + getD ws (at + 11) 0
-row-weight ws at =
-    let nested : weightOf (rowSlots ws at) ≡ getD ws (at + 2) 0 + (getD ws (at + 3 + 2) 0 + (getD ws (at + 6 + 2) 0 + getD ws (at + 9 + 2) 0))
-    = simp (getD-drop, add-zero) in
-    let two = word-at ws (at + 3 + 2) (at + 5) (omega arith) in
-    let three = word-at ws (at + 6 + 2) (at + 8) (omega arith) in
-    let four = word-at ws (at + 9 + 2) (at + 11) (omega arith) in
-    omega (arith, nested, two, three, four)
-
-weight-append : (bs cs : List Bucket) → weightOf (bs ++ cs) ≡ weightOf bs + weightOf cs
-weight-append [] cs = omega arith
-weight-append (b ∷ bs) cs = omega (arith, weight-append bs cs)
-
--- a row weighs what the slots from slot j on do more than those after it
-slots-weight : (ws v : List ℕ) (base at j n c : ℕ) → v ≡ drop (2 + 3 * base) ws → at + 3 * base ≡ 3 * j → j + 4 ≡ n → n ≤ c
-    → weightOf (slots ws j (c - j)) ≡ weightOf (rowSlots v at) + weightOf (slots ws n (c - n))
-slots-weight ws v base at j n c e h four room =
-    ap weightOf (slots-row ws v base at j n c e h four room) ∙ weight-append (rowSlots v at) (slots ws n (c - n))
 
 -- ---- the loop over turns
 
@@ -100,16 +76,6 @@ module _ (least most : ℕ) (ws : List ℕ) (count : ℕ) where
         },
         moved rest ws (2 + 3 * at) 48 (f .1) ∙ ap (λ (z : ℕ). drop z ws) {x = 2 + 3 * at + 48} {y = 2 + 3 * (at + 16)} (omega arith),
       )
-
-  -- a turn weighs what the slots from slot `at` on do more than those after it
-  pub turn-weight : (rest : List ℕ) (at : ℕ) → rest ≡ drop (2 + 3 * at) ws → at + 16 ≤ count
-      → weightOf (slots ws at (count - at)) ≡ turnWeight rest + weightOf (slots ws (at + 16) (count - (at + 16)))
-  turn-weight rest at e more =
-      let one = slots-weight ws rest at 0 at (at + 4) count e (omega arith) (omega arith) (omega (arith, more)) in
-      let two = slots-weight ws rest at 12 (at + 4) (at + 8) count e (omega arith) (omega arith) (omega (arith, more)) in
-      let three = slots-weight ws rest at 24 (at + 8) (at + 12) count e (omega arith) (omega arith) (omega (arith, more)) in
-      let four = slots-weight ws rest at 36 (at + 12) (at + 16) count e (omega arith) (omega arith) more in
-      omega (arith, one, two, three, four)
 
 -- the loop goes on only where sixteen slots are left
 pub goes-room : (gap at count : ℕ) → (leb (at + 16) count && eqb gap 0) ≡ true → at + 16 ≤ count
@@ -278,3 +244,16 @@ module _ (ws : List ℕ) (count k : ℕ) (few : k ≤ 20) where
       let h = rows-enough i r low t g seen in
       let top : (leastOf count i + r .extra) * count ≤ 3145728 * count = mul-le-mul-right {m = leastOf count i + r .extra} {n = 3145728} count (omega (arith, p .2, f .3)) in
       mod-eq-of-lt (omega (arith, h .1, top, few-buckets))
+
+  -- so the answer is whether the weight is what the total asks
+  pub enough-fits : (i total : ℕ) (r : Quick) (w : ℕ) → i ≤ 24 → count ≤ 1024 → tried count i ≡ true → ByRows (leastOf count i) (mostOf count i) ws count r
+      → enough k first r ≡ true → w ≡ weightOf bs % 2 ^ 32 → fits first total w ≡ (soundBuckets k i first bs && fits first total (weightOf bs))
+  enough-fits i total r w low few-buckets t g seen e =
+      rw (rows-enough i r low t g seen .0, e ∙ rows-weight i r low few-buckets t g seen)
+
+  -- and yes where F is above 0 and so many of the largest weight that was seen are at most the total
+  pub bounded-fits : (i total : ℕ) (r : Quick) → i ≤ 24 → tried count i ≡ true → ByRows (leastOf count i) (mostOf count i) ws count r
+      → enough k first r ≡ true → 0 < first → (leastOf count i + r .extra) * count ≤ total → true ≡ (soundBuckets k i first bs && fits first total (weightOf bs))
+  bounded-fits i total r low t g seen past bound =
+      let h = rows-enough i r low t g seen in
+      rw (h .0, le-leb (weightOf bs) total (omega (arith, h .1, bound)), ne-eqb first 0 (λ e. omega (arith, e, past)))

@@ -1,9 +1,9 @@
 // A quick pass over the buckets of a level: where its tests hold they are sound, and where not the pass that decides is made.
-use pass::Verdict;
 use pass::judge_seen;
 use pass::least;
 use words::Slot;
 use words::both;
+use words::implied;
 use words::long;
 use words::power;
 use words::slot_at;
@@ -14,11 +14,10 @@ ghost use Prim.Native.Nat.{_+_, _-_, _*_, _/_, _%_, _^_, _<_, _≤_};
 ghost use lib.Dec.{leb, eqb};
 ghost use lib.ListN.{length, getD};
 ghost use Rattle.model.specs.Words.{slots};
-ghost use Rattle.model.specs.Sound.{weightOf};
+ghost use Rattle.model.specs.Sound.{weightOf, soundBuckets};
 ghost use Rattle.words.specs.Slot.{content};
-ghost use Rattle.pass.specs.Pass.{Judged};
-ghost use Rattle.quick.specs.Quick.{fresh, over, quickBucket, marked, quickEach, mostOf, enough, tried, Within};
-ghost use Rattle.quick.specs.Rows.{opened, rowSlots, row, ending, seam, turn, turnWeight, begun, joined, ReadRows, ByRows};
+ghost use Rattle.quick.specs.Quick.{fresh, over, quickBucket, marked, quickEach, mostOf, enough, tried, fits};
+ghost use Rattle.quick.specs.Rows.{opened, row, ending, seam, turn, begun, joined, ReadRows, ByRows};
 
 // What a quick pass over the buckets of a level from 1 on has collected. Its tests are fewer, and ask more than soundness does: where
 // they fail, the other pass decides.
@@ -172,20 +171,6 @@ fn quick_turn(t: Rows, rest: &[u32], least: u32, most: u32) -> Rows
     }
 }
 
-// Before the first bucket, which has this length.
-fn begin_rows(first: u32, width: u32) -> Rows
-    ensures { λ r. ⌜ r ≡ begun first width ⌝ }
-{
-    Rows {
-        one: begin(first, width),
-        two: begin(0, 1),
-        three: begin(0, 1),
-        four: begin(0, 1),
-        gap: 0,
-        end: first,
-    }
-}
-
 // Whether sixteen slots more are read at once. Where rows do not join the buckets are unsound, and a loop that may end there is not
 // taken by the compiler for one over single words, which would be slower.
 fn goes_on(t: Rows, at: usize, count: usize) -> bool
@@ -206,7 +191,14 @@ fn quick_turns(level: &[u32], count: usize, least: u32, most: u32) -> Turned
     requires { ⌜ (2 + 3 * count ≤ length (now level)) × (count ≤ 1024) × (0 < count) ⌝ }
     ensures { λ r. ⌜ ReadRows least most (now (level .entry)) count (r .rows) (r .at) ⌝ }
 {
-    let mut t = begin_rows(level[1], level[3]);
+    let mut t = Rows {
+        one: begin(level[1], level[3]),
+        two: begin(0, 1),
+        three: begin(0, 1),
+        four: begin(0, 1),
+        gap: 0,
+        end: level[1],
+    };
     let mut rest = &level[2..];
     let mut at: usize = 0;
     while goes_on(t, at, count) {
@@ -242,93 +234,19 @@ fn quick_buckets(level: &[u32], count: usize, least: u32, most: u32) -> Quick
     quick_rest(join(rows), level, turned.at, count, least, most)
 }
 
-// The weights of the four slots from word `at` on, added to a sum.
-fn add_row(sum: u32, rest: &[u32], at: usize) -> u32
-    requires { ⌜ at + 12 ≤ length (now rest) ⌝ }
-    ensures { λ r. ⌜ r ≡ (sum + weightOf (rowSlots (now (rest .entry)) at)) % 2 ^ 32 ⌝ }
-{
-    let one = std::num::wrapping_add_u32(sum, rest[at + 2]);
-    let two = std::num::wrapping_add_u32(one, rest[at + 5]);
-    let three = std::num::wrapping_add_u32(two, rest[at + 8]);
-    std::num::wrapping_add_u32(three, rest[at + 11])
-}
-
-// The weights of sixteen slots, added to a sum.
-fn add_turn(sum: u32, rest: &[u32]) -> u32
-    requires { ⌜ 48 ≤ length (now rest) ⌝ }
-    ensures { λ r. ⌜ r ≡ (sum + turnWeight (now (rest .entry))) % 2 ^ 32 ⌝ }
-{
-    let one = add_row(sum, rest, 0);
-    let two = add_row(one, rest, 12);
-    let three = add_row(two, rest, 24);
-    add_row(three, rest, 36)
-}
-
-// A quick pass that has also added the weights.
-struct Weighed {
-    turned: Turned,
-    // The sum of the weights, up to a multiple of 2 ^ 32.
-    sum: u32,
-}
-
-// As `quick_turns`, and the weights are added.
-fn weigh_turns(level: &[u32], count: usize, least: u32, most: u32) -> Weighed
-    requires { ⌜ (2 + 3 * count ≤ length (now level)) × (count ≤ 1024) × (0 < count) ⌝ }
-    ensures { λ r. ⌜ ReadRows least most (now (level .entry)) count (r .turned .rows) (r .turned .at)
-        × ((r .sum + weightOf (slots (now (level .entry)) (r .turned .at) (count - r .turned .at))) % 2 ^ 32
-        ≡ weightOf (slots (now (level .entry)) 0 count) % 2 ^ 32) ⌝ }
-{
-    let mut t = begin_rows(level[1], level[3]);
-    let mut sum: u32 = 0;
-    let mut rest = &level[2..];
-    let mut at: usize = 0;
-    while goes_on(t, at, count) {
-        t = quick_turn(t, rest, least, most);
-        sum = add_turn(sum, rest);
-        rest = &rest[48..];
-        at += 16;
-    }
-    let turned = Turned { rows: t, at: at };
-    Weighed {
-        turned: turned,
-        sum: sum,
-    }
-}
-
-// The weights of the slots from `from` on, added to a sum.
-fn add_rest(sum: u32, level: &[u32], from: usize, count: usize) -> u32
+// The sum of the weights, up to a multiple of 2 ^ 32.
+fn weight_of(level: &[u32], count: usize) -> u32
     requires { ⌜ (2 + 3 * count ≤ length (now level)) × (count ≤ 1024) ⌝ }
-    ensures { λ r. ⌜ r ≡ (sum + weightOf (slots (now (level .entry)) from (count - from))) % 2 ^ 32 ⌝ }
+    ensures { λ r. ⌜ r ≡ weightOf (slots (now (level .entry)) 0 count) % 2 ^ 32 ⌝ }
 {
-    let mut all = sum;
-    let mut at = from;
+    let mut sum: u32 = 0;
+    let mut at: usize = 0;
     while at < count {
         let b = slot_at(level, at);
-        all = std::num::wrapping_add_u32(all, b.weight);
+        sum = std::num::wrapping_add_u32(sum, b.weight);
         at += 1;
     }
-    all
-}
-
-// The weight of the buckets up to a multiple of 2 ^ 32, and what a quick pass has collected.
-struct Sum {
-    seen: Quick,
-    sum: u32,
-}
-
-fn weigh_buckets(level: &[u32], count: usize, least: u32, most: u32) -> Sum
-    requires { ⌜ (2 + 3 * count ≤ length (now level)) × (count ≤ 1024) × (0 < count) ⌝ }
-    ensures { λ r. ⌜ ByRows least most (now (level .entry)) count (r .seen)
-        × (r .sum ≡ weightOf (slots (now (level .entry)) 0 count) % 2 ^ 32) ⌝ }
-{
-    let w = weigh_turns(level, count, least, most);
-    let turned = w.turned;
-    let rows = turned.rows;
-    let from = turned.at;
-    Sum {
-        seen: quick_rest(join(rows), level, from, count, least, most),
-        sum: add_rest(w.sum, level, from, count),
-    }
+    sum
 }
 
 // What the weight of a bucket that is longer than 1 has at most above the least one.
@@ -368,24 +286,6 @@ fn is_tried(count: usize, i: u8) -> bool
     both(0 < i, both(0 < count, least(count, i) <= 1048576))
 }
 
-// The weight of a level's buckets, and whether they are sound: by a quick pass, where that is enough.
-pub fn judge(level: &[u32], count: usize, k: u8, i: u8) -> Verdict
-    requires { ⌜ (2 + 3 * count ≤ length (now level)) × (count ≤ 1024) × (k ≤ 20) × (i ≤ 24) ⌝ }
-    ensures { λ r. ⌜ Judged k i (getD (now (level .entry)) 1 0) (slots (now (level .entry)) 0 count) r ⌝ }
-{
-    if is_tried(count, i) {
-        let low = least(count, i);
-        let w = weigh_buckets(level, count, low, most(count, i));
-        if is_enough(w.seen, level[1], k) {
-            return Verdict {
-                weight: long(w.sum),
-                sound: true,
-            };
-        }
-    }
-    judge_seen(level, count, k, i)
-}
-
 // Whether so many weights, each at most `extra` above `least`, are at most the total together.
 fn is_bounded(least: u32, extra: u32, count: usize, total: u64) -> bool
     requires { ⌜ count ≤ 1024 ⌝ }
@@ -395,22 +295,41 @@ fn is_bounded(least: u32, extra: u32, count: usize, total: u64) -> bool
     top * count as u64 <= total
 }
 
-// Whether a quick pass tells that the buckets are sound and weigh at most the total, by the largest weight that it may have seen: no
-// weight is added. Where it does not tell, that is left open; it is not tried where weights up to twice the least are too many.
-pub fn is_within(level: &[u32], count: usize, k: u8, i: u8, total: u64) -> bool
-    requires { ⌜ (2 + 3 * count ≤ length (now level)) × (count ≤ 1024) × (k ≤ 20) × (i ≤ 24) ⌝ }
-    ensures { λ r. ⌜ Within k i (getD (now (level .entry)) 1 0) total (slots (now (level .entry)) 0 count) r ⌝ }
+// Whether a level's weight is what its half's total asks.
+fn weighs(weight: u64, first: u32, total: u64) -> bool
+    ensures { λ r. ⌜ r ≡ fits first total weight ⌝ }
 {
+    both(weight <= total, implied(first == 0, weight == total))
+}
+
+// Whether a level's buckets are sound and weigh what its half's total asks: by a quick pass, where that is enough. Where F is above 0 the
+// weights are only asked to be at most the total, so none is added where so many of the largest that the pass may have seen are.
+// The pass is called in both arms: a function that is called once is put into its caller, and there the compiler no longer finds the rows.
+pub fn sound_buckets(level: &[u32], count: usize, k: u8, i: u8, total: u64) -> bool
+    requires { ⌜ (2 + 3 * count ≤ length (now level)) × (count ≤ 1024) × (k ≤ 20) × (i ≤ 24) ⌝ }
+    ensures { λ r. ⌜ r ≡ (soundBuckets k i (getD (now (level .entry)) 1 0) (slots (now (level .entry)) 0 count)
+        && fits (getD (now (level .entry)) 1 0) total (weightOf (slots (now (level .entry)) 0 count))) ⌝ }
+{
+    let first = level[1];
     if is_tried(count, i) {
         let low = least(count, i);
         let high = most(count, i);
-        if is_bounded(low, high, count, total) {
+        if 0 < first {
             let t = quick_buckets(level, count, low, high);
-            return both(
-                is_enough(t, level[1], k),
-                is_bounded(low, t.extra, count, total),
-            );
+            if is_enough(t, first, k) {
+                if is_bounded(low, t.extra, count, total) {
+                    return true;
+                }
+                return weighs(long(weight_of(level, count)), first, total);
+            }
+        } else {
+            let t = quick_buckets(level, count, low, high);
+            if is_enough(t, first, k) {
+                return weighs(long(weight_of(level, count)), first, total);
+            }
         }
     }
-    false
+    let v = judge_seen(level, count, k, i);
+    let right = weighs(v.weight, first, total);
+    both(v.sound, right)
 }

@@ -1,6 +1,5 @@
 // Whether the words of one level are sound.
-use quick::is_within;
-use quick::judge;
+use quick::sound_buckets;
 use shape::Shape;
 use words::both;
 use words::implied;
@@ -54,15 +53,6 @@ pub fn sound_level(level: &[u32], s: Shape, i: u8, total: u64) -> bool
         return false;
     }
     let unused = is_zero(level, 2 + 3 * count);
-    if 0 < first {
-        if is_within(level, count, s.k, i, total) {
-            return both(unused, count == n);
-        }
-    }
-    let v = judge(level, count, s.k, i);
-    let weight = v.weight;
-    let whole = implied(first == 0, weight == total);
-    let full = implied(0 < first, count == n);
-    let rest = both(whole, both(full, v.sound));
-    both(unused, both(weight <= total, rest))
+    let right = sound_buckets(level, count, s.k, i, total);
+    both(unused, both(right, implied(0 < first, count == n)))
 }

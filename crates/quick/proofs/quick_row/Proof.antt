@@ -2,69 +2,49 @@ use native.Mathlib.Omega.{arith}
 use borrow.Author.Needs.{needs}
 use Rattle.quick.proofs.quick_row.Statement.{statement}
 use Rattle.quick.proofs.quick_row.Tie as tie
-use Rattle.quick.proofs.quick_row.Reads as reads
-use Rattle.quick.proofs.quick_row.Lts as lts
-use Rattle.quick.proofs.open_row.Reads as open-row-reads
-use Rattle.quick.proofs.quick_bucket.Reads as quick-bucket-reads
-use Rattle.words.proofs.slot_from.Reads as slot-from-reads
 
--- src/lib.rt:162:28
 mul-open-row : tie.Need-mul-open-row
 mul-open-row c = search needs
 
--- src/lib.rt:162:28
 shared-slice-read-open-row : tie.Need-shared-slice-read-open-row
 shared-slice-read-open-row c = search needs
 
--- src/lib.rt:162:9
 open-row-requires : tie.Need-open-row-requires
 open-row-requires c κs = search needs
 
--- src/lib.rt:163:34
 slot-from-requires : tie.Need-slot-from-requires
 slot-from-requires c κs = search needs
 
--- src/lib.rt:163:9
 quick-bucket-requires : tie.Need-quick-bucket-requires
 quick-bucket-requires c κs = search needs
 
--- src/lib.rt:164:49
 add-slot-from : tie.Need-add-slot-from
 add-slot-from c = search needs
 
--- src/lib.rt:164:33
 slot-from-requires-2 : tie.Need-slot-from-requires-2
 slot-from-requires-2 c κs = search needs
 
--- src/lib.rt:164:9
 quick-bucket-requires-2 : tie.Need-quick-bucket-requires-2
 quick-bucket-requires-2 c κs = search needs
 
--- src/lib.rt:165:51
 add-slot-from-2 : tie.Need-add-slot-from-2
 add-slot-from-2 c = search needs
 
--- src/lib.rt:165:35
 slot-from-requires-3 : tie.Need-slot-from-requires-3
 slot-from-requires-3 c κs = search needs
 
--- src/lib.rt:165:9
 quick-bucket-requires-3 : tie.Need-quick-bucket-requires-3
 quick-bucket-requires-3 c κs = search needs
 
--- src/lib.rt:166:41
 add-slot-from-3 : tie.Need-add-slot-from-3
 add-slot-from-3 c = omega (arith, c .before .before .before .before .before .before .before .before .before .pre, c .before .before .before .before .before .before .before .before .before .good, c .before .before .before .before .before .before .before .before .before .fits)
 
--- src/lib.rt:166:25
 slot-from-requires-4 : tie.Need-slot-from-requires-4
 slot-from-requires-4 c κs = search needs
 
--- src/lib.rt:166:5
 quick-bucket-requires-4 : tie.Need-quick-bucket-requires-4
 quick-bucket-requires-4 c κs = search needs
 
--- src/lib.rt:158:1
 returns : tie.Need-returns
 returns c =
     let p = c .before .before in

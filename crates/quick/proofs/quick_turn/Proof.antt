@@ -3,49 +3,34 @@ use borrow.Author.Needs.{needs}
 use Rattle.quick.specs.Rows.{turn}
 use Rattle.quick.proofs.quick_turn.Statement.{statement}
 use Rattle.quick.proofs.quick_turn.Tie as tie
-use Rattle.quick.proofs.quick_turn.Reads as reads
-use Rattle.quick.proofs.quick_turn.Lts as lts
-use Rattle.quick.proofs.end_at.Reads as end-at-reads
-use Rattle.quick.proofs.quick_row.Reads as quick-row-reads
-use Rattle.quick.proofs.seam_at.Reads as seam-at-reads
 
--- src/lib.rt:195:14
 quick-row-requires : tie.Need-quick-row-requires
 quick-row-requires c κs = search needs
 
--- src/lib.rt:196:14
 quick-row-requires-2 : tie.Need-quick-row-requires-2
 quick-row-requires-2 c κs = search needs
 
--- src/lib.rt:197:16
 quick-row-requires-3 : tie.Need-quick-row-requires-3
 quick-row-requires-3 c κs = search needs
 
--- src/lib.rt:198:15
 quick-row-requires-4 : tie.Need-quick-row-requires-4
 quick-row-requires-4 c κs = search needs
 
--- src/lib.rt:199:31
 shared-slice-read-t14 : tie.Need-shared-slice-read-t14
 shared-slice-read-t14 c = search needs
 
--- src/lib.rt:199:42
 seam-at-requires : tie.Need-seam-at-requires
 seam-at-requires c κs = omega (arith, c .before .before .before .before .before .before .before .before .before .before .before .before .pre)
 
--- src/lib.rt:199:61
 seam-at-requires-2 : tie.Need-seam-at-requires-2
 seam-at-requires-2 c κs = omega (arith, c .before .before .before .before .before .before .before .before .before .before .before .before .before .pre)
 
--- src/lib.rt:199:81
 seam-at-requires-3 : tie.Need-seam-at-requires-3
 seam-at-requires-3 c κs = omega (arith, c .before .before .before .before .before .before .before .before .before .before .before .before .before .before .pre)
 
--- src/lib.rt:200:14
 end-at-requires : tie.Need-end-at-requires
 end-at-requires c κs = omega (arith, c .before .before .before .before .before .before .before .before .before .before .before .before .before .before .before .pre)
 
--- src/lib.rt:186:1
 returns : tie.Need-returns
 unfolding turn
 returns c =

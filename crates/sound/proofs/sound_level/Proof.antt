@@ -1,20 +1,25 @@
 -- Each test is one factor of `soundLevel`.
 use mathlib.Core.Bool.{Bool, true, false, _&&_}
 use mathlib.Core.Path.{_≡_, refl}
-use Prim.Native.Nat.{_≤_, _<_}
-use native.Mathlib.Omega.{arith}
-use lib.Dec.{eqb}
+use lib.Dec.{leb, ltb, eqb}
 use lib.ListN.{getD}
-use borrow.Author.Needs.{needs}
-use borrow.Author.Tests.{le-leb, lt-leb, lt-ltb, ne-eqb}
+use borrow.Author.Tests.{le-leb, lt-leb}
 use Rattle.model.specs.Words.{slots}
-use Rattle.model.specs.Sound.{weightOf, soundBuckets, soundLevel}
+use Rattle.model.specs.Sound.{implies, weightOf, soundBuckets, soundLevel}
+use borrow.Author.Needs.{needs}
 use Rattle.sound.proofs.sound_level.Statement.{statement}
 use Rattle.sound.proofs.sound_level.Tie as tie
 
-and-unit : (b : Bool) → (b && true) ≡ b
-and-unit true = refl
-and-unit false = refl
+-- the same tests in another order
+regroup : (s a b c : Bool) → ((s && (a && b)) && c) ≡ (a && (b && (c && s)))
+regroup true true true true = refl
+regroup true true true false = refl
+regroup true true false c = refl
+regroup true false b c = refl
+regroup false true true true = refl
+regroup false true true false = refl
+regroup false true false c = refl
+regroup false false b c = refl
 
 shared-slice-read-wide : tie.Need-shared-slice-read-wide
 shared-slice-read-wide c = search needs
@@ -41,78 +46,39 @@ add-is-zero c = search needs
 is-zero-requires : tie.Need-is-zero-requires
 is-zero-requires c κs = search needs
 
-is-within-requires : tie.Need-is-within-requires
-is-within-requires c κs = search needs
+sound-buckets-requires : tie.Need-sound-buckets-requires
+sound-buckets-requires c κs = search needs
+
+implied-requires : tie.Need-implied-requires
+implied-requires c κs = search needs
 
 both-requires : tie.Need-both-requires
 both-requires c κs = search needs
 
--- a level that gave buckets up, of which the quick pass told enough
+both-requires-2 : tie.Need-both-requires-2
+both-requires-2 c κs = search needs
+
 returns-2 : tie.Need-returns-2
 unfolding soundLevel
 returns-2 c =
-    let w = c .before .before in
-    let z = w .before .before in
+    let z = c .before .before .before .before in
     let d = z .before .before .before .before in
     let a = d .before .before .before .args in
     let ws = a .level .now in
     let count = getD ws 0 0 in
     let first = getD ws 1 0 in
-    let past : 0 < first = w .before .if2 .taken in
-    let told : (soundBuckets (a .s .k) (a .i) first (slots ws 0 count) ≡ true) × (weightOf (slots ws 0 count) ≤ a .total) =
-    rw (d .wide .ensures) at (w .is-within .ensures (c .before .if3 .taken)) in
+    let bs = slots ws 0 count in
+    let weight = weightOf bs in
     rw (
-      c .both .ensures,
+      c .both2 .ensures,
+      c .before .both .ensures,
+      c .before .before .implied .ensures,
+      c .before .before .before .sound-buckets .ensures,
       z .is-zero .ensures,
       d .wide .ensures,
       le-leb count (a .s .n) (rw (d .wide .ensures) at (z .before .if1 .left)),
-      told .0,
-      le-leb (weightOf (slots ws 0 count)) (a .total) (told .1),
-      ne-eqb first 0 (λ e. omega (arith, e, past)),
-      lt-ltb 0 first past,
-      and-unit (eqb count (a .s .n)),
-    )
-
-judge-requires : tie.Need-judge-requires
-judge-requires c κs = search needs
-
-implied-requires : tie.Need-implied-requires
-implied-requires c κs = search needs
-
-implied-requires-2 : tie.Need-implied-requires-2
-implied-requires-2 c κs = search needs
-
-both-requires-2 : tie.Need-both-requires-2
-both-requires-2 c κs = search needs
-
-both-requires-3 : tie.Need-both-requires-3
-both-requires-3 c κs = search needs
-
-both-requires-4 : tie.Need-both-requires-4
-both-requires-4 c κs = search needs
-
-both-requires-5 : tie.Need-both-requires-5
-both-requires-5 c κs = search needs
-
-returns-3 : tie.Need-returns-3
-unfolding soundLevel
-returns-3 c =
-    let q = c .before .before .before .before in
-    let v = q .before .before in
-    let z = v .before .before in
-    let d = z .before .before .before .before in
-    rw (
-      c .both5 .ensures,
-      c .before .both4 .ensures,
-      c .before .before .both3 .ensures,
-      c .before .before .before .both2 .ensures,
-      v .judge .ensures .1,
-      q .implied2 .ensures,
-      q .before .implied .ensures,
-      v .judge .ensures .0,
-      z .is-zero .ensures,
-      d .wide .ensures,
-      le-leb _ _ (rw (d .wide .ensures) at (z .before .if1 .left)),
+      regroup (soundBuckets (a .s .k) (a .i) first bs) (leb weight (a .total)) (implies (eqb first 0) (eqb weight (a .total)))
+          (implies (ltb 0 first) (eqb count (a .s .n))),
     )
 
 pub sound-level-spec : {M : Type 1} → statement M
@@ -127,14 +93,8 @@ sound-level-spec =
     mul-is-zero
     add-is-zero
     is-zero-requires
-    is-within-requires
-    both-requires
-    returns-2
-    judge-requires
+    sound-buckets-requires
     implied-requires
-    implied-requires-2
+    both-requires
     both-requires-2
-    both-requires-3
-    both-requires-4
-    both-requires-5
-    returns-3)
+    returns-2)

@@ -1,24 +1,24 @@
--- Invariant: what is added and then the slots from `at` on weigh what all slots from `from` on do, up to a multiple of 2 ^ 32.
-use mathlib.Core.Path.{_≡_, refl, ap}
+-- Invariant: what is added and then the slots from `at` on weigh what all slots do, up to a multiple of 2 ^ 32.
+use mathlib.Core.Path.{_≡_, ap}
 use Prim.Native.Nat.{_+_, _-_, _%_, _^_, _<_}
 use native.Mathlib.Omega.{arith}
-use borrow.Author.Needs.{needs}
 use Rattle.model.specs.Words.{slots}
 use Rattle.model.specs.Sound.{weightOf}
-use Rattle.laws.specs.LevelWords.{slots-none}
+use Rattle.laws.specs.LevelWords.{slots-none, slots-all}
 use Rattle.words.specs.Slot.{slots-read}
-use Rattle.quick.proofs.add_rest.Statement.{statement}
-use Rattle.quick.proofs.add_rest.Tie as tie
+use borrow.Author.Needs.{needs}
+use Rattle.quick.proofs.weight_of.Statement.{statement}
+use Rattle.quick.proofs.weight_of.Tie as tie
 
 abbrev Inv-loop : tie.InvT-loop
-Inv-loop sum level from count all₀ at₀ all at =
-    (all < 2 ^ 32) × ((all + weightOf (slots level at (count - at))) % 2 ^ 32 ≡ (all₀ + weightOf (slots level from (count - from))) % 2 ^ 32)
+Inv-loop level count sum₀ at₀ sum at =
+    (sum < 2 ^ 32) × ((sum + weightOf (slots level at (count - at))) % 2 ^ 32 ≡ weightOf (slots level 0 count) % 2 ^ 32)
 
 abbrev μ-loop : tie.MeasureT-loop
-μ-loop sum level from count all₀ at₀ all at = count - at
+μ-loop level count sum₀ at₀ sum at = count - at
 
 loop-holds : tie.Need-loop-holds Inv-loop μ-loop
-loop-holds c = (omega arith, refl)
+loop-holds c = let a = c .before .args in (omega arith, omega (arith, ap weightOf (slots-all (a .level .now) (a .count))))
 
 slot-at-requires : tie.Need-slot-at-requires Inv-loop μ-loop
 slot-at-requires c κs = search needs
@@ -47,8 +47,8 @@ returns c =
     let none = slots-none (a .level .now) (l .loop .at) (a .count) (c .loop-test .left) in
     omega (arith, l .loop .inv .0, rw none at (l .loop .inv .1))
 
-pub add-rest-spec : {M : Type 1} → statement M
-add-rest-spec =
+pub weight-of-spec : {M : Type 1} → statement M
+weight-of-spec =
     tie.close
     (tie.spec
     Inv-loop

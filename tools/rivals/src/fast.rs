@@ -7,6 +7,7 @@
 use crate::calls::Calls;
 use crate::level::{halves, Level, Slot};
 use reference::shape::Shape;
+use std::array::from_fn;
 
 /// The calls with a check that runs through each level.
 pub struct Fast;
@@ -76,9 +77,8 @@ fn ticks(shape: Shape, level: Level, buckets: &[Slot], heaviest: &mut u32) -> Op
 }
 
 /// Level i from 1 on: buckets that span all from the first offset on. Only buckets of one tick may
-/// have a weight of 2^(i+1) or more. The first run leaves out what `heaviest` tells to be needless:
-/// to tell heavy buckets apart, and the sum where its bound is within the total and nothing more is
-/// asked of it. It stands if its bits show the same.
+/// have a weight of 2^(i+1) or more. The first run leaves out the sum, where `heaviest` tells that its
+/// bound is within the total and nothing more is asked of it. It stands if its bits show the same.
 fn spans(
     shape: Shape,
     index: u32,
@@ -92,25 +92,20 @@ fn spans(
     // No weight is more than the least one and all bits of the weights above it.
     let bound = |bits: u32| (u64::from(least) + u64::from(bits)) * buckets.len() as u64;
     let summed = |bits: u32| level.first == 0 || bound(bits) > total.into();
-    let few = buckets.len() < FEW;
-    let heavy = few || heaviest >= 2 << index;
-    let sum = few || summed(heaviest | (above - 1));
-    let run = match (heavy, sum) {
-        (false, false) => Seen::run::<false, false, 10>,
-        (false, true) => Seen::run::<false, true, 10>,
-        (true, false) => Seen::run::<true, false, 10>,
-        (true, true) if few => Seen::run::<true, true, 4>,
-        (true, true) => Seen::run::<true, true, 10>,
+    let sum = summed(heaviest | (above - 1));
+    let run = if sum {
+        Seen::run::<true>
+    } else {
+        Seen::run::<false>
     };
-    let mut seen = run(level.first, least, above, buckets);
-    if !heavy && seen.weights >= above || !sum && summed(seen.weights) {
-        seen = Seen::run::<true, true, 10>(level.first, least, above, buckets);
+    let mut seen = run(level.first, least, above, buckets)?;
+    if !sum && summed(seen.weights) {
+        seen = Seen::run::<true>(level.first, least, above, buckets)?;
     }
     let sound = seen.faults == 0
         && seen.bits < WRAPPING
         && seen.weights < 2 << Shape::M_MAX
-        && seen.next == 1 << shape.k()
-        && buckets.first().is_some_and(|slot| slot[1] != 0);
+        && seen.next == 1 << shape.k();
     sound.then(|| {
         if summed(seen.weights) {
             exact(buckets, seen.weights | least, seen.sum)
@@ -120,18 +115,27 @@ fn spans(
     })
 }
 
-/// Fewer buckets go in fours, of which a vector takes sixteen, and not in tens.
-const FEW: usize = 100;
-
 /// No offset or length of a sound level is so large; of ten buckets up to 2^32 all are.
 const WRAPPING: u32 = 4 << Shape::K_MAX;
+
+/// The vector that the compiler takes: four words.
+const LANES: usize = 4;
+
+/// The slots of a row, and of a turn, which has a row for each lane.
+const ROW: usize = 4;
+const TURN: usize = LANES * ROW;
+
+/// The words of a row and of a turn, and those of a turn with the offset after it.
+const ROW_WORDS: usize = Shape::SLOT_WORDS * ROW;
+const TURN_WORDS: usize = LANES * ROW_WORDS;
+const WINDOW: usize = TURN_WORDS + 1;
 
 /// What a run through the buckets of a level collects.
 struct Seen {
     /// Not zero where a condition fails.
     faults: u32,
-    /// Bits of offsets and lengths, which show whether a sum of the two can have wrapped. It is enough
-    /// to look at one bucket in ten or fewer, the first among them, if there is no fault and the first
+    /// Bits of the first length and of offsets, which show whether a sum of the two can have wrapped.
+    /// The first offset and every eighth one after it are enough, if there is no fault and the first
     /// length is not 0. Then a length divides its offset, and until a sum wraps only the first bucket
     /// begins at 0: from the second on an offset at most doubles, so that of the buckets that reach
     /// 2^32 the last ten begin at 2^22 or above. Where they are fewer, the first is one of them, and
@@ -145,57 +149,100 @@ struct Seen {
     next: u32,
 }
 
+/// What the turns collect, lane by lane.
+#[derive(Default)]
+struct Lanes {
+    faults: [u32; LANES],
+    weights: [u32; LANES],
+    sums: [u32; LANES],
+}
+
 impl Seen {
+    /// Nothing where there is no bucket or the first has no length.
     #[inline(never)]
-    fn run<const HEAVY: bool, const SUM: bool, const GROUP: usize>(
-        first: u32,
-        least: u32,
-        above: u32,
-        buckets: &[Slot],
-    ) -> Seen {
-        let mut seen = Seen {
-            faults: 0,
-            bits: 0,
-            weights: 0,
-            sum: 0,
-            next: first,
-        };
-        let (groups, rest) = buckets.as_chunks::<GROUP>();
-        for group in groups {
-            seen.bits |= group[0][0] | group[0][1];
-            for bucket in group {
-                seen.bucket::<HEAVY, SUM>(least, above, bucket);
+    fn run<const SUM: bool>(first: u32, least: u32, above: u32, buckets: &[Slot]) -> Option<Seen> {
+        let &[offset, length, _] = buckets.first().filter(|slot| slot[1] != 0)?;
+        let words = buckets.as_flattened();
+        let turns = buckets.len().saturating_sub(1) / TURN;
+        let mut lanes = Lanes::default();
+        let (mut gaps, mut bits) = (first ^ offset, length);
+        for turn in 0..turns {
+            // The compiler does not see that the window always fits, and its check of the bounds keeps
+            // the loop vectoriser away, which would load each word of a turn alone.
+            let from = TURN_WORDS * turn;
+            let words: &[u32; WINDOW] = words[from..from + WINDOW].try_into().unwrap();
+            lanes.turn::<SUM>(least, above, words);
+            bits |= words[0] | words[TURN_WORDS / 2];
+            // From row to row, in single words.
+            for row in 1..=LANES {
+                gaps |= gap(words, ROW_WORDS * row);
             }
         }
+        let rest = &buckets[TURN * turns..];
+        let mut seen = Seen {
+            faults: lanes.faults.iter().fold(gaps, |all, lane| all | lane),
+            bits,
+            weights: lanes.weights.iter().fold(0, |all, lane| all | lane),
+            sum: lanes
+                .sums
+                .iter()
+                .fold(0, |all: u32, lane| all.wrapping_add(*lane)),
+            next: rest[0][0],
+        };
         for bucket in rest {
-            seen.bits |= bucket[0] | bucket[1];
-            seen.bucket::<HEAVY, SUM>(least, above, bucket);
+            seen.bucket(least, above, bucket);
         }
-        seen
+        Some(seen)
     }
 
-    #[inline(always)]
-    fn bucket<const HEAVY: bool, const SUM: bool>(
-        &mut self,
-        least: u32,
-        above: u32,
-        &[offset, length, weight]: &Slot,
-    ) {
-        self.faults |= self.next ^ offset;
-        self.next = offset.wrapping_add(length);
-        let both = offset | length;
+    fn bucket(&mut self, least: u32, above: u32, &[offset, length, weight]: &Slot) {
         let extra = weight.wrapping_sub(least);
+        self.faults |= self.next ^ offset | span(offset, length, extra, above);
+        self.bits |= offset;
         self.weights |= extra;
-        if SUM {
-            self.sum = self.sum.wrapping_add(weight);
-        }
-        // A power of two that divides its offset; or both are 0, which only a first bucket can be.
-        // It is 1 where the weight is heavy.
-        let mask = if HEAVY && extra as i32 > above as i32 - 1 {
-            u32::MAX
-        } else {
-            0
-        };
-        self.faults |= (both | mask) & length.wrapping_sub(1);
+        self.sum = self.sum.wrapping_add(weight);
+        self.next = offset.wrapping_add(length);
     }
+}
+
+impl Lanes {
+    /// Sixteen slots: a lane for each row, column by column, which the compiler makes of whole vectors
+    /// that it transposes.
+    #[inline(always)]
+    fn turn<const SUM: bool>(&mut self, least: u32, above: u32, words: &[u32; WINDOW]) {
+        let columns: [[u32; LANES]; ROW_WORDS] =
+            from_fn(|column| from_fn(|row| words[ROW_WORDS * row + column]));
+        for slot in 0..ROW {
+            for lane in 0..LANES {
+                let [offset, length, weight] = from_fn(|word| columns[3 * slot + word][lane]);
+                let extra = weight.wrapping_sub(least);
+                self.faults[lane] |= span(offset, length, extra, above);
+                self.weights[lane] |= extra;
+                if SUM {
+                    self.sums[lane] = self.sums[lane].wrapping_add(weight);
+                }
+                if slot + 1 < ROW {
+                    self.faults[lane] |= offset.wrapping_add(length) ^ columns[3 * slot + 3][lane];
+                }
+            }
+        }
+    }
+}
+
+/// Zero where the slot before this place ends at the offset that is there.
+#[inline(always)]
+fn gap(words: &[u32; WINDOW], at: usize) -> u32 {
+    words[at - 3].wrapping_add(words[at - 2]) ^ words[at]
+}
+
+/// Zero where the length is a power of two that divides the offset, and 1 where the weight is heavy;
+/// or where both are 0, which only a first bucket can be.
+#[inline(always)]
+fn span(offset: u32, length: u32, extra: u32, above: u32) -> u32 {
+    let heavy = if extra as i32 > above as i32 - 1 {
+        u32::MAX
+    } else {
+        0
+    };
+    (offset | length | heavy) & length.wrapping_sub(1)
 }

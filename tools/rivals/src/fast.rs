@@ -54,26 +54,77 @@ fn exact(buckets: &[Slot], bits: u32, wrapped: u32) -> u64 {
 
 /// Level 0: a bucket for every tick. `heaviest` becomes about the largest weight.
 fn ticks(shape: Shape, level: Level, buckets: &[Slot], heaviest: &mut u32) -> Option<u64> {
-    let (mut gaps, mut lengths, mut weights, mut sum) = (0, 0, 0, 0u32);
-    let mut lowest = level.first;
-    let mut see = |&[offset, length, weight]: &Slot| {
-        // Below 2^k, unless the offset is too small; 1,024 such gaps do not wrap.
-        gaps |= offset.wrapping_sub(lowest);
-        lowest = offset.wrapping_add(1);
-        lengths |= length ^ 1;
-        // At least 2^31 where the weight is 0.
-        weights |= weight.wrapping_sub(1);
-        sum = sum.wrapping_add(weight);
-    };
-    let (groups, rest) = buckets.as_chunks::<4>();
-    groups
-        .iter()
-        .for_each(|group| group.iter().for_each(&mut see));
-    rest.iter().for_each(see);
-    let within = level.first | gaps | lowest.saturating_sub(1);
-    *heaviest = weights;
-    let sound = within < 1 << shape.k() && lengths == 0 && weights < 1 << Shape::M_MAX;
-    sound.then(|| exact(buckets, weights, sum))
+    let seen = Ticks::run(level.first, buckets);
+    *heaviest = seen.weights;
+    let last = buckets.last().map_or(0, |slot| slot[0]);
+    let sound = (level.first | seen.gaps | last) < 1 << shape.k()
+        && seen.lengths == 0
+        && seen.weights < 1 << Shape::M_MAX;
+    sound.then(|| exact(buckets, seen.weights, seen.sum))
+}
+
+struct Ticks {
+    gaps: u32,
+    lengths: u32,
+    weights: u32,
+    sum: u32,
+}
+
+impl Ticks {
+    #[inline(never)]
+    fn run(first: u32, buckets: &[Slot]) -> Ticks {
+        let words = buckets.as_flattened();
+        let turns = buckets.len().saturating_sub(1) / TURN;
+        let mut gap = [0; LANES];
+        let mut length = [0; LANES];
+        let mut weight = [0; LANES];
+        let mut sum = [0u32; LANES];
+        let mut gaps = 0;
+        for turn in 0..turns {
+            let from = TURN_WORDS * turn;
+            let words: &[u32; WINDOW] = words[from..from + WINDOW].try_into().unwrap();
+            let columns = columns(words);
+            for slot in 0..ROW {
+                for lane in 0..LANES {
+                    let [o, l, w]: Slot = from_fn(|word| columns[3 * slot + word][lane]);
+                    length[lane] |= l ^ 1;
+                    weight[lane] |= w.wrapping_sub(1);
+                    sum[lane] = sum[lane].wrapping_add(w);
+                    if slot + 1 < ROW {
+                        gap[lane] |= columns[3 * slot + 3][lane].wrapping_sub(o).wrapping_sub(1);
+                    }
+                }
+            }
+            for row in 1..=LANES {
+                let at = ROW_WORDS * row;
+                gaps |= words[at].wrapping_sub(words[at - 3]).wrapping_sub(1);
+            }
+        }
+        let mut seen = Ticks {
+            gaps: gap.iter().fold(gaps, |all, lane| all | lane),
+            lengths: length.iter().fold(0, |all, lane| all | lane),
+            weights: weight.iter().fold(0, |all, lane| all | lane),
+            sum: sum.iter().fold(0, |all: u32, lane| all.wrapping_add(*lane)),
+        };
+        if let Some(slot) = buckets.first() {
+            seen.gaps |= slot[0].wrapping_sub(first);
+        }
+        let rest = &buckets[TURN * turns..];
+        for pair in rest.windows(2) {
+            seen.gaps |= pair[1][0].wrapping_sub(pair[0][0]).wrapping_sub(1);
+        }
+        for bucket in rest {
+            seen.lengths |= bucket[1] ^ 1;
+            seen.weights |= bucket[2].wrapping_sub(1);
+            seen.sum = seen.sum.wrapping_add(bucket[2]);
+        }
+        seen
+    }
+}
+
+#[inline(always)]
+fn columns(words: &[u32; WINDOW]) -> [[u32; LANES]; ROW_WORDS] {
+    from_fn(|column| from_fn(|row| words[ROW_WORDS * row + column]))
 }
 
 /// Level i from 1 on: buckets that span all from the first offset on. Only buckets of one tick may

@@ -5,7 +5,7 @@
 //! could have.
 
 use crate::calls::Calls;
-use crate::level::{halves, Level, Slot};
+use crate::level::{halves, Slot};
 use reference::shape::Shape;
 use std::array::from_fn;
 
@@ -15,12 +15,11 @@ pub struct Fast;
 impl Calls for Fast {
     fn is_sound(shape: Shape, block: &[u32]) -> bool {
         halves(shape, block).into_iter().all(|(total, levels)| {
-            let mut heaviest = 0;
             u64::from(total) <= shape.capacity()
                 && (0..).zip(levels).all(|(index, level)| {
                     level.is_sound(total, are_zero, |used| match index {
-                        0 => ticks(shape, level, used, &mut heaviest),
-                        _ => spans(shape, index, level, used, total, heaviest),
+                        0 => ticks(shape, level.first, used),
+                        _ => spans(shape, index, level.first, used, total),
                     })
                 })
         })
@@ -48,16 +47,20 @@ fn exact(buckets: &[Slot], bits: u32, wrapped: u32) -> u64 {
     if bits < LIGHT {
         wrapped.into()
     } else {
-        buckets.iter().map(|slot| u64::from(slot[2])).sum()
+        added(buckets)
     }
 }
 
-/// Level 0: a bucket for every tick. `heaviest` becomes about the largest weight.
-fn ticks(shape: Shape, level: Level, buckets: &[Slot], heaviest: &mut u32) -> Option<u64> {
-    let seen = Ticks::run(level.first, buckets);
-    *heaviest = seen.weights;
+/// The sum of the weights.
+fn added(buckets: &[Slot]) -> u64 {
+    buckets.iter().map(|slot| u64::from(slot[2])).sum()
+}
+
+/// Level 0: a bucket for every tick.
+fn ticks(shape: Shape, first: u32, buckets: &[Slot]) -> Option<u64> {
+    let seen = Ticks::run(first, buckets);
     let last = buckets.last().map_or(0, |slot| slot[0]);
-    let sound = (level.first | seen.gaps | last) < 1 << shape.k()
+    let sound = (first | seen.gaps | last) < 1 << shape.k()
         && seen.lengths == 0
         && seen.weights < 1 << Shape::M_MAX;
     sound.then(|| exact(buckets, seen.weights, seen.sum))
@@ -128,41 +131,30 @@ fn columns(words: &[u32; WINDOW]) -> [[u32; LANES]; ROW_WORDS] {
 }
 
 /// Level i from 1 on: buckets that span all from the first offset on. Only buckets of one tick may
-/// have a weight of 2^(i+1) or more. The first run leaves out the sum, where `heaviest` tells that its
-/// bound is within the total and nothing more is asked of it. It stands if its bits show the same.
-fn spans(
-    shape: Shape,
-    index: u32,
-    level: Level,
-    buckets: &[Slot],
-    total: u32,
-    heaviest: u32,
-) -> Option<u64> {
+/// have a weight of 2^(i+1) or more. Where something was evicted, a bound of the sum within the total
+/// is enough; there the weights are added only if their bits bound it too widely, in a second pass
+/// unless that is certain before.
+fn spans(shape: Shape, index: u32, first: u32, buckets: &[Slot], total: u32) -> Option<u64> {
     let least = if buckets.len() > 1 { 1 << index } else { 0 };
     let above = (2 << index) - least;
     // No weight is more than the least one and all bits of the weights above it.
     let bound = |bits: u32| (u64::from(least) + u64::from(bits)) * buckets.len() as u64;
-    let summed = |bits: u32| level.first == 0 || bound(bits) > total.into();
-    let sum = summed(heaviest | (above - 1));
-    let run = if sum {
-        Seen::run::<true>
-    } else {
+    let is_enough = |bits: u32| first != 0 && bound(bits) <= total.into();
+    let bounded = is_enough(above - 1);
+    let run = if bounded {
         Seen::run::<false>
+    } else {
+        Seen::run::<true>
     };
-    let mut seen = run(level.first, least, above, buckets)?;
-    if !sum && summed(seen.weights) {
-        seen = Seen::run::<true>(level.first, least, above, buckets)?;
-    }
+    let seen = run(first, least, above, buckets)?;
     let sound = seen.faults == 0
         && seen.bits < WRAPPING
         && seen.weights < 2 << Shape::M_MAX
         && seen.next == 1 << shape.k();
-    sound.then(|| {
-        if summed(seen.weights) {
-            exact(buckets, seen.weights | least, seen.sum)
-        } else {
-            bound(seen.weights)
-        }
+    sound.then(|| match bounded {
+        false => exact(buckets, seen.weights | least, seen.sum),
+        true if is_enough(seen.weights) => bound(seen.weights),
+        true => added(buckets),
     })
 }
 

@@ -66,11 +66,26 @@ fn ticks(shape: Shape, first: u32, buckets: &[Slot]) -> Option<u64> {
     sound.then(|| exact(buckets, seen.weights, seen.sum))
 }
 
+/// What a run through level 0 collects.
 struct Ticks {
+    /// Bits of what lies between an offset and the least that it may be: below 2^k, unless it is too
+    /// small; 1,024 such gaps do not wrap.
     gaps: u32,
+    /// Bits in which lengths differ from 1.
     lengths: u32,
+    /// Bits of the weights less 1; at least 2^31 where one is 0.
     weights: u32,
+    /// The sum of the weights, modulo 2^32.
     sum: u32,
+}
+
+/// The same, lane by lane.
+#[derive(Default)]
+struct TickLanes {
+    gaps: Lanes,
+    lengths: Lanes,
+    weights: Lanes,
+    sums: Lanes,
 }
 
 impl Ticks {
@@ -78,43 +93,29 @@ impl Ticks {
     fn run(first: u32, buckets: &[Slot]) -> Ticks {
         let words = buckets.as_flattened();
         let turns = buckets.len().saturating_sub(1) / TURN;
-        let mut gap = [0; LANES];
-        let mut length = [0; LANES];
-        let mut weight = [0; LANES];
-        let mut sum = [0u32; LANES];
+        let mut lanes = TickLanes::default();
         let mut gaps = 0;
         for turn in 0..turns {
             let from = TURN_WORDS * turn;
-            let words: &[u32; WINDOW] = words[from..from + WINDOW].try_into().unwrap();
-            let columns = columns(words);
-            for slot in 0..ROW {
-                for lane in 0..LANES {
-                    let [o, l, w]: Slot = from_fn(|word| columns[3 * slot + word][lane]);
-                    length[lane] |= l ^ 1;
-                    weight[lane] |= w.wrapping_sub(1);
-                    sum[lane] = sum[lane].wrapping_add(w);
-                    if slot + 1 < ROW {
-                        gap[lane] |= columns[3 * slot + 3][lane].wrapping_sub(o).wrapping_sub(1);
-                    }
-                }
-            }
+            let window: &Window = words[from..from + TURN_WORDS + 1].try_into().unwrap();
+            lanes.turn(window);
             for row in 1..=LANES {
                 let at = ROW_WORDS * row;
-                gaps |= words[at].wrapping_sub(words[at - 3]).wrapping_sub(1);
+                gaps |= between(window[at - 3], window[at]);
             }
         }
         let mut seen = Ticks {
-            gaps: gap.iter().fold(gaps, |all, lane| all | lane),
-            lengths: length.iter().fold(0, |all, lane| all | lane),
-            weights: weight.iter().fold(0, |all, lane| all | lane),
-            sum: sum.iter().fold(0, |all: u32, lane| all.wrapping_add(*lane)),
+            gaps: gaps | joined(lanes.gaps),
+            lengths: joined(lanes.lengths),
+            weights: joined(lanes.weights),
+            sum: added_up(lanes.sums),
         };
         if let Some(slot) = buckets.first() {
             seen.gaps |= slot[0].wrapping_sub(first);
         }
         let rest = &buckets[TURN * turns..];
         for pair in rest.windows(2) {
-            seen.gaps |= pair[1][0].wrapping_sub(pair[0][0]).wrapping_sub(1);
+            seen.gaps |= between(pair[0][0], pair[1][0]);
         }
         for bucket in rest {
             seen.lengths |= bucket[1] ^ 1;
@@ -125,9 +126,28 @@ impl Ticks {
     }
 }
 
+impl TickLanes {
+    #[inline(always)]
+    fn turn(&mut self, window: &Window) {
+        let columns = columns(window);
+        for slot in 0..ROW {
+            for lane in 0..LANES {
+                let [offset, length, weight]: Slot = from_fn(|word| columns[3 * slot + word][lane]);
+                self.lengths[lane] |= length ^ 1;
+                self.weights[lane] |= weight.wrapping_sub(1);
+                self.sums[lane] = self.sums[lane].wrapping_add(weight);
+                if slot + 1 < ROW {
+                    self.gaps[lane] |= between(offset, columns[3 * slot + 3][lane]);
+                }
+            }
+        }
+    }
+}
+
+/// How many ticks lie between two offsets; large where the next one is not above.
 #[inline(always)]
-fn columns(words: &[u32; WINDOW]) -> [[u32; LANES]; ROW_WORDS] {
-    from_fn(|column| from_fn(|row| words[ROW_WORDS * row + column]))
+fn between(offset: u32, next: u32) -> u32 {
+    next.wrapping_sub(offset).wrapping_sub(1)
 }
 
 /// Level i from 1 on: buckets that span all from the first offset on. Only buckets of one tick may
@@ -142,9 +162,9 @@ fn spans(shape: Shape, index: u32, first: u32, buckets: &[Slot], total: u32) -> 
     let is_enough = |bits: u32| first != 0 && bound(bits) <= total.into();
     let bounded = is_enough(above - 1);
     let run = if bounded {
-        Seen::run::<false>
+        Spans::run::<false>
     } else {
-        Seen::run::<true>
+        Spans::run::<true>
     };
     let seen = run(first, least, above, buckets)?;
     let sound = seen.faults == 0
@@ -161,20 +181,8 @@ fn spans(shape: Shape, index: u32, first: u32, buckets: &[Slot], total: u32) -> 
 /// No offset or length of a sound level is so large; of ten buckets up to 2^32 all are.
 const WRAPPING: u32 = 4 << Shape::K_MAX;
 
-/// The vector that the compiler takes: four words.
-const LANES: usize = 4;
-
-/// The slots of a row, and of a turn, which has a row for each lane.
-const ROW: usize = 4;
-const TURN: usize = LANES * ROW;
-
-/// The words of a row and of a turn, and those of a turn with the offset after it.
-const ROW_WORDS: usize = Shape::SLOT_WORDS * ROW;
-const TURN_WORDS: usize = LANES * ROW_WORDS;
-const WINDOW: usize = TURN_WORDS + 1;
-
-/// What a run through the buckets of a level collects.
-struct Seen {
+/// What a run through the buckets of a level from 1 on collects.
+struct Spans {
     /// Not zero where a condition fails.
     faults: u32,
     /// Bits of the first length and of offsets, which show whether a sum of the two can have wrapped.
@@ -192,44 +200,39 @@ struct Seen {
     next: u32,
 }
 
-/// What the turns collect, lane by lane.
+/// The same, lane by lane.
 #[derive(Default)]
-struct Lanes {
-    faults: [u32; LANES],
-    weights: [u32; LANES],
-    sums: [u32; LANES],
+struct SpanLanes {
+    faults: Lanes,
+    weights: Lanes,
+    sums: Lanes,
 }
 
-impl Seen {
+impl Spans {
     /// Nothing where there is no bucket or the first has no length.
     #[inline(never)]
-    fn run<const SUM: bool>(first: u32, least: u32, above: u32, buckets: &[Slot]) -> Option<Seen> {
+    fn run<const SUM: bool>(first: u32, least: u32, above: u32, buckets: &[Slot]) -> Option<Spans> {
         let &[offset, length, _] = buckets.first().filter(|slot| slot[1] != 0)?;
         let words = buckets.as_flattened();
         let turns = buckets.len().saturating_sub(1) / TURN;
-        let mut lanes = Lanes::default();
+        let mut lanes = SpanLanes::default();
         let (mut gaps, mut bits) = (first ^ offset, length);
         for turn in 0..turns {
-            // The compiler does not see that the window always fits, and its check of the bounds keeps
-            // the loop vectoriser away, which would load each word of a turn alone.
             let from = TURN_WORDS * turn;
-            let words: &[u32; WINDOW] = words[from..from + WINDOW].try_into().unwrap();
-            lanes.turn::<SUM>(least, above, words);
-            bits |= words[0] | words[TURN_WORDS / 2];
-            // From row to row, in single words.
+            let window: &Window = words[from..from + TURN_WORDS + 1].try_into().unwrap();
+            lanes.turn::<SUM>(least, above, window);
+            bits |= window[0] | window[TURN_WORDS / 2];
             for row in 1..=LANES {
-                gaps |= gap(words, ROW_WORDS * row);
+                let at = ROW_WORDS * row;
+                gaps |= gap(window[at - 3], window[at - 2], window[at]);
             }
         }
         let rest = &buckets[TURN * turns..];
-        let mut seen = Seen {
-            faults: lanes.faults.iter().fold(gaps, |all, lane| all | lane),
+        let mut seen = Spans {
+            faults: gaps | joined(lanes.faults),
             bits,
-            weights: lanes.weights.iter().fold(0, |all, lane| all | lane),
-            sum: lanes
-                .sums
-                .iter()
-                .fold(0, |all: u32, lane| all.wrapping_add(*lane)),
+            weights: joined(lanes.weights),
+            sum: added_up(lanes.sums),
             next: rest[0][0],
         };
         for bucket in rest {
@@ -248,16 +251,13 @@ impl Seen {
     }
 }
 
-impl Lanes {
-    /// Sixteen slots: a lane for each row, column by column, which the compiler makes of whole vectors
-    /// that it transposes.
+impl SpanLanes {
     #[inline(always)]
-    fn turn<const SUM: bool>(&mut self, least: u32, above: u32, words: &[u32; WINDOW]) {
-        let columns: [[u32; LANES]; ROW_WORDS] =
-            from_fn(|column| from_fn(|row| words[ROW_WORDS * row + column]));
+    fn turn<const SUM: bool>(&mut self, least: u32, above: u32, window: &Window) {
+        let columns = columns(window);
         for slot in 0..ROW {
             for lane in 0..LANES {
-                let [offset, length, weight] = from_fn(|word| columns[3 * slot + word][lane]);
+                let [offset, length, weight]: Slot = from_fn(|word| columns[3 * slot + word][lane]);
                 let extra = weight.wrapping_sub(least);
                 self.faults[lane] |= span(offset, length, extra, above);
                 self.weights[lane] |= extra;
@@ -265,21 +265,21 @@ impl Lanes {
                     self.sums[lane] = self.sums[lane].wrapping_add(weight);
                 }
                 if slot + 1 < ROW {
-                    self.faults[lane] |= offset.wrapping_add(length) ^ columns[3 * slot + 3][lane];
+                    self.faults[lane] |= gap(offset, length, columns[3 * slot + 3][lane]);
                 }
             }
         }
     }
 }
 
-/// Zero where the slot before this place ends at the offset that is there.
+/// Zero where the next bucket begins where this one ends.
 #[inline(always)]
-fn gap(words: &[u32; WINDOW], at: usize) -> u32 {
-    words[at - 3].wrapping_add(words[at - 2]) ^ words[at]
+fn gap(offset: u32, length: u32, next: u32) -> u32 {
+    offset.wrapping_add(length) ^ next
 }
 
-/// Zero where the length is a power of two that divides the offset, and 1 where the weight is heavy;
-/// or where both are 0, which only a first bucket can be.
+/// Zero where the length is a power of two that divides the offset, and is 1 if the weight is heavy;
+/// or where offset and length are 0, which only those of a first bucket can be.
 #[inline(always)]
 fn span(offset: u32, length: u32, extra: u32, above: u32) -> u32 {
     let heavy = if extra as i32 > above as i32 - 1 {
@@ -288,4 +288,42 @@ fn span(offset: u32, length: u32, extra: u32, above: u32) -> u32 {
         0
     };
     (offset | length | heavy) & length.wrapping_sub(1)
+}
+
+/// The words of a vector. The slots of a level go in turns of as many rows, a lane for each: no load of
+/// the baseline processor parts offsets, lengths and weights, but where a turn is taken column by
+/// column the compiler loads whole vectors, parts of a row, and transposes them. What lies in one row
+/// is compared in its lane, the last slot of a row and the first of the next as single words.
+const LANES: usize = 4;
+
+/// A word for each row.
+type Lanes = [u32; LANES];
+
+/// The slots of a row and of a turn.
+const ROW: usize = 4;
+const TURN: usize = LANES * ROW;
+
+/// The words of a row and of a turn.
+const ROW_WORDS: usize = Shape::SLOT_WORDS * ROW;
+const TURN_WORDS: usize = LANES * ROW_WORDS;
+
+/// The words of a turn and the offset of the slot after it. The compiler does not see that each window
+/// fits, and its check of the bounds keeps the loop vectoriser away, which would load each word of a
+/// turn alone. It does see it where the window is cut in a function that is inlined; so the loops do it.
+type Window = [u32; TURN_WORDS + 1];
+
+/// The words of a turn, those that stand at the same place of each row together.
+#[inline(always)]
+fn columns(window: &Window) -> [Lanes; ROW_WORDS] {
+    from_fn(|column| from_fn(|row| window[ROW_WORDS * row + column]))
+}
+
+/// The bits of all lanes.
+fn joined(lanes: Lanes) -> u32 {
+    lanes.iter().fold(0, |all, lane| all | lane)
+}
+
+/// The sum of all lanes, modulo 2^32.
+fn added_up(lanes: Lanes) -> u32 {
+    lanes.iter().fold(0, |all, lane| all.wrapping_add(*lane))
 }

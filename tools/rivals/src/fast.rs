@@ -132,12 +132,12 @@ impl TickLanes {
         let columns = columns(window);
         for slot in 0..ROW {
             for lane in 0..LANES {
-                let [offset, length, weight]: Slot = from_fn(|word| columns[3 * slot + word][lane]);
+                let [offset, length, weight] = bucket(&columns, slot, lane);
                 self.lengths[lane] |= length ^ 1;
                 self.weights[lane] |= weight.wrapping_sub(1);
                 self.sums[lane] = self.sums[lane].wrapping_add(weight);
                 if slot + 1 < ROW {
-                    self.gaps[lane] |= between(offset, columns[3 * slot + 3][lane]);
+                    self.gaps[lane] |= between(offset, bucket(&columns, slot + 1, lane)[0]);
                 }
             }
         }
@@ -257,7 +257,7 @@ impl SpanLanes {
         let columns = columns(window);
         for slot in 0..ROW {
             for lane in 0..LANES {
-                let [offset, length, weight]: Slot = from_fn(|word| columns[3 * slot + word][lane]);
+                let [offset, length, weight] = bucket(&columns, slot, lane);
                 let extra = weight.wrapping_sub(least);
                 self.faults[lane] |= span(offset, length, extra, above);
                 self.weights[lane] |= extra;
@@ -265,7 +265,7 @@ impl SpanLanes {
                     self.sums[lane] = self.sums[lane].wrapping_add(weight);
                 }
                 if slot + 1 < ROW {
-                    self.faults[lane] |= gap(offset, length, columns[3 * slot + 3][lane]);
+                    self.faults[lane] |= gap(offset, length, bucket(&columns, slot + 1, lane)[0]);
                 }
             }
         }
@@ -316,6 +316,12 @@ type Window = [u32; TURN_WORDS + 1];
 #[inline(always)]
 fn columns(window: &Window) -> [Lanes; ROW_WORDS] {
     from_fn(|column| from_fn(|row| window[ROW_WORDS * row + column]))
+}
+
+/// The slot that stands at a place of a lane's row.
+#[inline(always)]
+fn bucket(columns: &[Lanes; ROW_WORDS], slot: usize, lane: usize) -> Slot {
+    from_fn(|word| columns[Shape::SLOT_WORDS * slot + word][lane])
 }
 
 /// The bits of all lanes.

@@ -117,7 +117,7 @@ fn lengths_that_are_no_powers_of_two_or_do_not_divide_their_offsets() {
                     let mut lengths = vec![1; count as usize];
                     lengths[slot] = length;
                     let buckets = spans(&lengths, 8);
-                    let sound = length.is_power_of_two() && buckets[slot][0] % length == 0;
+                    let sound = length.is_power_of_two() && buckets[slot][0].is_multiple_of(length);
                     book.check(3, &buckets, sound);
                 }
             }

@@ -26,16 +26,23 @@ impl Calls for Fast {
     }
 }
 
-/// Whether every word is 0: all joined with `|`, four vectors at a time.
+/// Whether every word is 0: all joined with `|`, four vectors at a time. Each begins where 16 divides the
+/// address, so that none lies in two lines of the cache, but for those of the first and the last
+/// sixteen words, which need not be read one by one then.
 fn are_zero(slots: &[Slot]) -> bool {
-    let (groups, rest) = slots.as_flattened().as_chunks::<16>();
-    let mut bits = [0; 16];
-    for group in groups {
+    let words = slots.as_flattened();
+    let ends = words.first_chunk::<16>().zip(words.last_chunk::<16>());
+    let Some((first, last)) = ends else {
+        return words.iter().all(|word| *word == 0);
+    };
+    let mut bits: [u32; 16] = from_fn(|at| first[at] | last[at]);
+    let within = &words[words.as_ptr().align_offset(16).min(16)..];
+    for group in within.as_chunks::<16>().0 {
         for (bits, word) in bits.iter_mut().zip(group) {
             *bits |= word;
         }
     }
-    bits.iter().chain(rest).fold(0, |all, word| all | word) == 0
+    bits.iter().fold(0, |all, word| all | word) == 0
 }
 
 /// Weights of at most 2^21 + 2^20 add up to less than 2^32 on every level.

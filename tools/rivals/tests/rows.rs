@@ -245,3 +245,24 @@ fn first_lengths_that_are_zero_or_wrap() {
         book.check(1, &buckets, false);
     }
 }
+
+/// Every word after the buckets of an empty book, however many slots a level has.
+#[test]
+fn unused_slots_that_are_not_zero() {
+    for n in (2..30).chain([61, 200]) {
+        let shape = Shape::new(4, n, 2, 1).unwrap();
+        let mut words = vec![0; shape.book_length()];
+        Fast::make(&mut words, 4, n, 2, 1).unwrap();
+        assert_eq!(Fast::query(&words, 0, 0), Ok(0));
+        let block = shape.block(0).start;
+        for (parity, index) in [0, 1].into_iter().flat_map(|p| [0, 1, 2].map(|i| (p, i))) {
+            let level = shape.level(parity, index);
+            let used = if index == 0 { 2 } else { 5 };
+            for at in block + level.start + used..block + level.end {
+                words[at] = 1 << (at % 32);
+                assert_eq!(Fast::query(&words, 0, 0), Err(refusal::BLOCK), "{n} {at}");
+                words[at] = 0;
+            }
+        }
+    }
+}

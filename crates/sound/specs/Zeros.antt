@@ -29,7 +29,7 @@ regroup true true false true t = refl
 regroup true true false false t = refl
 
 -- a word of each of two lists is joined
-pub zeros-pair : (low high : List ℕ) (all j : ℕ) → j < length low → j < length high
+zeros-pair : (low high : List ℕ) (all j : ℕ) → j < length low → j < length high
     → (eqb (bitOr (bitOr all (getD low j 0)) (getD high j 0)) 0 && (zeros (drop (j + 1) low) && zeros (drop (j + 1) high)))
     ≡ (eqb all 0 && (zeros (drop j low) && zeros (drop j high)))
 zeros-pair low high all j h k =
@@ -44,43 +44,54 @@ zeros-parts [] (suc n) = refl
 zeros-parts (w ∷ ws) (suc n) =
     ap (λ (t : Bool). eqb w 0 && t) (zeros-parts ws n) ∙ sym (and-assoc (eqb w 0) (zeros (take n ws)) (zeros (drop n ws)))
 
-zeros-at : (ws : List ℕ) (j : ℕ) → zeros ws ≡ true → getD ws j 0 ≡ 0
-zeros-at [] j e = refl
-zeros-at (w ∷ ws) zero e = eqb-true w 0 (both {b = zeros ws} e .0)
-zeros-at (w ∷ ws) (suc j) e = zeros-at ws j (both {a = eqb w 0} e .1)
+-- the last two tests in the other order
+swapped : (x u v : Bool) → ((x && v) && u) ≡ (x && (u && v))
+swapped false u v = refl
+swapped true true true = refl
+swapped true true false = refl
+swapped true false true = refl
+swapped true false false = refl
 
--- where the last word is 0, so are all of at most one
-zeros-last : (ws : List ℕ) (n : ℕ) → length ws ≤ n + 1 → getD ws (length ws - 1) 0 ≡ 0 → zeros (drop n ws) ≡ true
-zeros-last ws n few e =
-    ⊎-elim
-    (λ (one : n < length ws).
-    let here : length ws - 1 ≡ n = omega arith in
-    zeros-step ws n one ∙ rw (rw here at e, drop-of-length-le ws few))
-    (λ (none : length ws ≤ n). rw (drop-of-length-le ws none))
-    (lt-or-ge n (length ws))
+-- a word of each of four lists is joined
+pub zeros-four : (a b c d : List ℕ) (all j : ℕ) → j < length a → j < length b → j < length c → j < length d
+    → (eqb (bitOr (bitOr (bitOr (bitOr all (getD a j 0)) (getD b j 0)) (getD c j 0)) (getD d j 0)) 0
+    && ((zeros (drop (j + 1) a) && zeros (drop (j + 1) b)) && (zeros (drop (j + 1) c) && zeros (drop (j + 1) d))))
+    ≡ (eqb all 0 && ((zeros (drop j a) && zeros (drop j b)) && (zeros (drop j c) && zeros (drop j d))))
+zeros-four a b c d all j ha hb hc hd =
+    let two = bitOr (bitOr all (getD a j 0)) (getD b j 0) in
+    let four = bitOr (bitOr two (getD c j 0)) (getD d j 0) in
+    let next = zeros (drop (j + 1) a) && zeros (drop (j + 1) b) in
+    let here = zeros (drop j c) && zeros (drop j d) in
+    sym (swapped (eqb four 0) next (zeros (drop (j + 1) c) && zeros (drop (j + 1) d)))
+    ∙ ap (λ (t : Bool). t && next) (zeros-pair c d two j hc hd)
+    ∙ swapped (eqb two 0) next here ∙ sym (and-assoc (eqb two 0) next here)
+    ∙ ap (λ (t : Bool). t && here) (zeros-pair a b all j ha hb)
+    ∙ and-assoc (eqb all 0) (zeros (drop j a) && zeros (drop j b)) here
 
--- two parts of n words from `from` on, and at most one word more, which is the last
-module _ (ws : List ℕ) (from n all : ℕ) (some : from < length ws) (few : length ws ≤ from + n + n + 1) where
-  abbrev last : ℕ
-  last = getD ws (length ws - 1) 0
+-- one word more is joined
+pub zeros-one : (ws : List ℕ) (all j : ℕ) → j < length ws → (eqb (bitOr all (getD ws j 0)) 0 && zeros (drop (j + 1) ws)) ≡ (eqb all 0 && zeros (drop j ws))
+zeros-one ws all j h = rw (or-tested all (getD ws j 0), zeros-step ws j h) (and-assoc (eqb all 0) (eqb (getD ws j 0) 0) (zeros (drop (j + 1) ws)))
 
-  abbrev Joined : Type 0  -- `all` is none and the words past both parts are zero just where those of both are
-  Joined = (eqb all 0 && zeros (drop n (drop (from + n) ws))) ≡ (zeros (take n (drop from ws)) && zeros (drop (from + n) ws))
+-- four parts of n words from `from` on, the fourth with all words to the end
+module _ (ws : List ℕ) (from n all rest : ℕ) where
+  abbrev two : ℕ
+  two = from + n
 
-  whole : Joined → (eqb all 0 && zeros (drop (from + n + n) ws)) ≡ zeros (drop from ws)
-  whole e =
-      rw (drop-drop n (from + n) ws) at e
-      ∙ ap (λ (z : List ℕ). zeros (take n (drop from ws)) && zeros z) (sym (drop-drop n from ws)) ∙ sym (zeros-parts (drop from ws) n)
+  abbrev three : ℕ
+  three = two + n
 
-  last-zero : zeros (drop from ws) ≡ true → last ≡ 0
-  last-zero t =
-      let here : from + (length ws - 1 - from) ≡ length ws - 1 = omega arith in
-      rw here at (sym (getD-drop from ws (length ws - 1 - from) 0) ∙ zeros-at (drop from ws) (length ws - 1 - from) t)
+  abbrev four : ℕ
+  four = three + n
 
-  pub zeros-halves : Joined → eqb (bitOr all last) 0 ≡ zeros (drop from ws)
-  zeros-halves e =
-      tests-equal
-      (tests-same (eqb-tests (bitOr all last) 0) (or-none all last) (λ p. none-or all last (p .0) (p .1))) (
-        λ t. (eqb-true all 0 (both (whole e ∙ t) .0), last-zero t),
-        λ p. sym (whole e) ∙ and-true (eq-eqb all 0 (p .0)) (zeros-last ws (from + n + n) few (p .1)),
-      )
+  parted : (m : ℕ) → zeros (drop m ws) ≡ (zeros (take n (drop m ws)) && zeros (drop (m + n) ws))
+  parted m = zeros-parts (drop m ws) n ∙ ap (λ (z : List ℕ). zeros (take n (drop m ws)) && zeros z) (drop-drop n m ws)
+
+  pub zeros-quarters : (eqb all 0 && zeros (drop n (drop four ws)))
+      ≡ ((zeros (take n (drop from ws)) && zeros (take n (drop two ws))) && (zeros (take n (drop three ws)) && zeros (drop four ws)))
+      → eqb rest 0 ≡ zeros (drop (four + n) ws) → eqb (bitOr all rest) 0 ≡ zeros (drop from ws)
+  zeros-quarters e r =
+      let a = zeros (take n (drop from ws)) in
+      let b = zeros (take n (drop two ws)) in
+      or-tested all rest ∙ ap (λ (t : Bool). eqb all 0 && t) r ∙ ap (λ (z : List ℕ). eqb all 0 && zeros z) (sym (drop-drop n four ws)) ∙ e
+      ∙ ap (λ (t : Bool). (a && b) && t) (sym (parted three)) ∙ and-assoc a b (zeros (drop three ws))
+      ∙ ap (λ (t : Bool). a && t) (sym (parted two)) ∙ sym (parted from)

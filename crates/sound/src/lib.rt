@@ -12,23 +12,36 @@ ghost use lib.ListN.{length, drop};
 ghost use Rattle.shape.specs.Layout.{levelWords};
 ghost use Rattle.model.specs.Sound.{zeros, soundLevel};
 
-// The bits of the words of `low` and of as many of `high`, joined: two streams at once, so that the compiler takes four vectors a turn.
-fn joined(low: &[u32], high: &[u32]) -> u32
-    requires { ⌜ length (now low) ≤ length (now high) ⌝ }
-    ensures { λ r. ⌜ (eqb r 0 && zeros (drop (length (now (low .entry))) (now (high .entry))))
-        ≡ (zeros (now (low .entry)) && zeros (now (high .entry))) ⌝ }
+// The bits of the words of a, b and c and of as many of d, joined: four streams at once, so that the compiler takes eight vectors a turn.
+fn joined(a: &[u32], b: &[u32], c: &[u32], d: &[u32]) -> u32
+    requires { ⌜ (length (now b) ≡ length (now a)) × (length (now c) ≡ length (now a)) × (length (now a) ≤ length (now d)) ⌝ }
+    ensures { λ r. ⌜ (eqb r 0 && zeros (drop (length (now (a .entry))) (now (d .entry))))
+        ≡ ((zeros (now (a .entry)) && zeros (now (b .entry))) && (zeros (now (c .entry)) && zeros (now (d .entry)))) ⌝ }
 {
     let mut all: u32 = 0;
     let mut at: usize = 0;
-    while at < low.len() {
-        all = all | low[at] | high[at];
+    while at < a.len() {
+        all = all | a[at] | b[at] | c[at] | d[at];
         at += 1;
     }
     all
 }
 
-// Whether all words from `from` on are zero: their bits are collected, and tested once. Where their number is odd, the last word has
-// none beside it; it is taken in any case.
+// The bits of the words from `from` on, joined.
+fn bits_from(level: &[u32], from: usize) -> u32
+    ensures { λ r. ⌜ eqb r 0 ≡ zeros (drop from (now (level .entry))) ⌝ }
+{
+    let mut all: u32 = 0;
+    let mut at = from;
+    while at < level.len() {
+        all = all | level[at];
+        at += 1;
+    }
+    all
+}
+
+// Whether all words from `from` on are zero: their bits are collected, and tested once. After four parts of the same length at most
+// three words are left.
 fn is_zero(level: &[u32], from: usize) -> bool
     ensures { λ r. ⌜ r ≡ zeros (drop from (now (level .entry))) ⌝ }
 {
@@ -36,9 +49,17 @@ fn is_zero(level: &[u32], from: usize) -> bool
     if len <= from {
         return true;
     }
-    let mid = from + (len - from) / 2;
-    let all = joined(&level[from..mid], &level[mid..]);
-    all | level[len - 1] == 0
+    let part = (len - from) / 4;
+    let two = from + part;
+    let three = two + part;
+    let four = three + part;
+    let all = joined(
+        &level[from..two],
+        &level[two..three],
+        &level[three..four],
+        &level[four..],
+    );
+    all | bits_from(level, four + part) == 0
 }
 
 // Whether the words of level i are sound in a half of this total. The words may be any.

@@ -1,3 +1,4 @@
+-- The turns and then the slots after them are all slots.
 use borrow.Author.Needs.{needs}
 use Rattle.quick.specs.RowsLaws.{rows-rest}
 use Rattle.quick.proofs.quick_buckets.Statement.{statement}

@@ -1,3 +1,4 @@
+-- Each step is one of the definition, on the slot that the fields show.
 use native.Mathlib.Omega.{arith}
 use borrow.Author.Needs.{needs}
 use Rattle.quick.proofs.quick_row.Statement.{statement}

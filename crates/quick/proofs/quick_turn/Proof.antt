@@ -1,3 +1,4 @@
+-- Each row and each seam is that of the definition.
 use native.Mathlib.Omega.{arith}
 use borrow.Author.Needs.{needs}
 use Rattle.quick.specs.Rows.{turn}

@@ -1,3 +1,4 @@
+-- The end is that of the definition.
 use borrow.Author.Needs.{needs}
 use Rattle.quick.proofs.seam_at.Statement.{statement}
 use Rattle.quick.proofs.seam_at.Tie as tie

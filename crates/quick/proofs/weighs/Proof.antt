@@ -1,3 +1,4 @@
+-- The code tests the factors of the definition, each once.
 use borrow.Author.Needs.{needs}
 use Rattle.quick.proofs.weighs.Statement.{statement}
 use Rattle.quick.proofs.weighs.Tie as tie

@@ -1,23 +1,29 @@
--- The two parts are as long, or the second has one word more, the last: with that one all words from `from` on are joined.
+-- The four parts and the words after them are all words from `from` on.
 use Prim.Native.Nat.{_+_, _-_, _/_, _≤_}
 use native.Mathlib.Nat.{add-sub-cancel-left}
 use native.Mathlib.Omega.{arith}
 use lib.ListN.{length, drop, drop-of-length-le, length-drop}
 use lib.Seq.{length-take-le}
-use borrow.Author.Needs.{needs}
 use Rattle.words.specs.Slot.{part-all}
-use Rattle.sound.specs.Zeros.{zeros-halves}
+use Rattle.sound.specs.Zeros.{zeros-quarters}
+use borrow.Author.Needs.{needs}
 use Rattle.sound.proofs.is_zero.Statement.{statement}
 use Rattle.sound.proofs.is_zero.Tie as tie
 
 returns : tie.Need-returns
 returns c = let a = c .before .before .args in rw (drop-of-length-le (a .level .now) (c .if1 .taken))
 
-sub-mid : tie.Need-sub-mid
-sub-mid c = search needs
+sub-part : tie.Need-sub-part
+sub-part c = search needs
 
-add-mid : tie.Need-add-mid
-add-mid c = search needs
+add-two : tie.Need-add-two
+add-two c = search needs
+
+add-three : tie.Need-add-three
+add-three c = search needs
+
+add-four : tie.Need-add-four
+add-four c = search needs
 
 mul-joined : tie.Need-mul-joined
 mul-joined c = search needs
@@ -43,36 +49,61 @@ part-joined-start-2 c = search needs
 part-joined-end-2 : tie.Need-part-joined-end-2
 part-joined-end-2 c = search needs
 
+mul-joined-3 : tie.Need-mul-joined-3
+mul-joined-3 c = search needs
+
+sub-joined-3 : tie.Need-sub-joined-3
+sub-joined-3 c = search needs
+
+part-joined-start-3 : tie.Need-part-joined-start-3
+part-joined-start-3 c = search needs
+
+part-joined-end-3 : tie.Need-part-joined-end-3
+part-joined-end-3 c = search needs
+
+mul-joined-4 : tie.Need-mul-joined-4
+mul-joined-4 c = search needs
+
+sub-joined-4 : tie.Need-sub-joined-4
+sub-joined-4 c = search needs
+
+part-joined-start-4 : tie.Need-part-joined-start-4
+part-joined-start-4 c = search needs
+
+part-joined-end-4 : tie.Need-part-joined-end-4
+part-joined-end-4 c = search needs
+
 joined-requires : tie.Need-joined-requires
 joined-requires c κs = search needs
 
-sub-result : tie.Need-sub-result
-sub-result c = search needs
+add-bits-from : tie.Need-add-bits-from
+add-bits-from c = search needs
 
-mul-result : tie.Need-mul-result
-mul-result c = search needs
-
-shared-slice-read-result : tie.Need-shared-slice-read-result
-shared-slice-read-result c = search needs
+bits-from-requires : tie.Need-bits-from-requires
+bits-from-requires c κs = search needs
 
 returns-2 : tie.Need-returns-2
 returns-2 c =
     let j = c .before .joined in
-    let a = c .before .before .before .before .before .before .args in
+    let a = c .before .before .before .before .before .before .before .before .args in
     let ws = a .level .now in
-    let half = (length ws - a .from) / 2 in
-    let mid = a .from + half in
-    let long : half ≤ length (drop (a .from) ws) = omega (arith, length-drop (a .from) ws) in
-    let parts = rw (part-all ws mid, add-sub-cancel-left, length-take-le half (drop (a .from) ws) long) at (j .ensures) in
-    zeros-halves ws (a .from) half (j .result) (omega arith) (omega arith) parts
+    let part = (length ws - a .from) / 4 in
+    let two = a .from + part in
+    let three = two + part in
+    let four = three + part in
+    let long : part ≤ length (drop (a .from) ws) = omega (arith, length-drop (a .from) ws) in
+    let parts = rw (part-all ws four, add-sub-cancel-left, add-sub-cancel-left, add-sub-cancel-left, length-take-le part (drop (a .from) ws) long) at (j .ensures) in
+    zeros-quarters ws (a .from) part (j .result) (c .bits-from .result) parts (c .bits-from .ensures)
 
 pub is-zero-spec : {M : Type 1} → statement M
 is-zero-spec =
     tie.close
     (tie.spec
     returns
-    sub-mid
-    add-mid
+    sub-part
+    add-two
+    add-three
+    add-four
     mul-joined
     sub-joined
     part-joined-start
@@ -81,8 +112,15 @@ is-zero-spec =
     sub-joined-2
     part-joined-start-2
     part-joined-end-2
+    mul-joined-3
+    sub-joined-3
+    part-joined-start-3
+    part-joined-end-3
+    mul-joined-4
+    sub-joined-4
+    part-joined-start-4
+    part-joined-end-4
     joined-requires
-    sub-result
-    mul-result
-    shared-slice-read-result
+    add-bits-from
+    bits-from-requires
     returns-2)

@@ -1,11 +1,12 @@
 -- Each test is one factor of `soundLevel`.
 use mathlib.Core.Bool.{Bool, true, false, _&&_}
-use mathlib.Core.Path.{_≡_, refl}
+use mathlib.Core.Path.{_≡_, refl, ap}
 use lib.Dec.{leb, ltb, eqb}
-use lib.ListN.{getD}
+use lib.ListN.{getD, drop}
 use borrow.Author.Tests.{le-leb, lt-leb}
 use Rattle.model.specs.Words.{slots}
-use Rattle.model.specs.Sound.{implies, weightOf, soundBuckets, soundLevel}
+use Rattle.shape.specs.Layout.{slotStart}
+use Rattle.model.specs.Sound.{zeros, implies, weightOf, soundBuckets, soundLevel}
 use borrow.Author.Needs.{needs}
 use Rattle.sound.proofs.sound_level.Statement.{statement}
 use Rattle.sound.proofs.sound_level.Tie as tie
@@ -77,9 +78,10 @@ returns-2 c =
       z .is-zero .ensures,
       d .wide .ensures,
       le-leb count (a .s .n) (rw (d .wide .ensures) at (z .before .if1 .left)),
-      regroup (soundBuckets (a .s .k) (a .i) first bs) (leb weight (a .total)) (implies (eqb first 0) (eqb weight (a .total)))
-          (implies (ltb 0 first) (eqb count (a .s .n))),
     )
+    (ap (λ (t : Bool). zeros (drop (slotStart count) ws) && t)
+    (regroup (soundBuckets (a .s .k) (a .i) first bs) (leb weight (a .total)) (implies (eqb first 0) (eqb weight (a .total)))
+    (implies (ltb 0 first) (eqb count (a .s .n)))))
 
 pub sound-level-spec : {M : Type 1} → statement M
 sound-level-spec =

@@ -22,12 +22,12 @@ pub struct Times {
 }
 
 impl Times {
-    /// Of these rounds only the faster half counts: in the others something else had the processor or
-    /// its other half.
+    /// Of these rounds only the fastest tenth counts: in the others something else may have had the
+    /// processor or its other half, for which a check and a bare read pay in different measure.
     fn new(mut rounds: Vec<[f64; TIMED]>) -> Times {
         let whole = |round: &[f64; TIMED]| round.iter().sum::<f64>();
         rounds.sort_by(|one, other| whole(one).total_cmp(&whole(other)));
-        rounds.truncate(rounds.len().div_ceil(2));
+        rounds.truncate(rounds.len().div_ceil(10));
         Times { rounds }
     }
 
@@ -129,10 +129,11 @@ mod tests {
     use super::{Times, TIMED};
 
     #[test]
-    fn the_faster_half_counts() {
+    fn the_fastest_tenth_counts() {
         let round =
             |time: f64| std::array::from_fn::<_, TIMED, _>(|timed| time * (1 + timed) as f64);
-        let times = Times::new([9.0, 1.0, 3.0, 8.0, 2.0].map(round).to_vec());
+        let rounds = (1..=30).rev().map(|time| round(f64::from(time)));
+        let times = Times::new(rounds.collect());
         assert_eq!(times.median(0), 2.0);
         assert_eq!(times.median(2), 6.0);
         assert_eq!(times.ratio(3, 1), 2.0);

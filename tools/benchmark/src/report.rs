@@ -61,40 +61,35 @@ struct Row {
     times: Times,
 }
 
-/// Measures everything.
+/// A row to be measured: its name, the call, the shape and a grown book.
+type Asked<'a> = (String, Kind, Shape, &'a [u32]);
+
+/// Measures everything. The rows of all tables take turns, so that each is spread over the whole run.
 pub fn run(rounds: usize) -> Vec<Table> {
-    let mut tables = Vec::new();
-    for (name, numbers) in [
-        ("Site shape", SITE),
-        ("Site shape with eight grades", SITE_EIGHT),
-        ("Small shape", SMALL),
-    ] {
-        let (shape, book) = grown(numbers);
-        let rows = Kind::ALL.map(|kind| (kind.name().to_owned(), kind, shape, &book[..]));
-        tables.push(Table {
-            title: format!("{name} {}", described(shape, &book)),
-            head: "call",
-            rows: measured(rows.into(), rounds),
-        });
-    }
     let [k, n, m, g] = SITE;
-    for (title, head, shapes) in [
-        ("growing with n", "slots", SLOTS.map(|n| [k, n, m, g])),
-        ("growing with M", "levels", LEVELS.map(|m| [k, n, m, g])),
+    let sites = [SITE, SITE_EIGHT, SMALL].map(grown);
+    let by_slots = SLOTS.map(|n| grown([k, n, m, g]));
+    let by_levels = LEVELS.map(|m| grown([k, n, m, g]));
+    let mut asked: Vec<(String, &'static str, Vec<Asked>)> = Vec::new();
+    let names = ["Site shape", "Site shape with eight grades", "Small shape"];
+    for (name, (shape, book)) in names.iter().zip(&sites) {
+        let rows = Kind::ALL.map(|kind| (kind.name().to_owned(), kind, *shape, &book[..]));
+        let title = format!("{name} {}", described(*shape, book));
+        asked.push((title, "call", rows.into()));
+    }
+    for (title, head, books) in [
+        ("growing with n", "slots", &by_slots),
+        ("growing with M", "levels", &by_levels),
     ] {
-        let books = shapes.map(grown);
         let rows = books.each_ref().map(|(shape, book)| {
             let (n, m, filled) = (shape.n(), shape.m(), filled(*shape, book));
             let name = format!("n = {n}, M = {m}, {filled}");
             (name, Kind::Unit, *shape, &book[..])
         });
-        tables.push(Table {
-            title: format!("Delivery of 1 decilitre, {title}, shape ({k}, n, M, {g})"),
-            head,
-            rows: measured(rows.into(), rounds),
-        });
+        let title = format!("Delivery of 1 decilitre, {title}, shape ({k}, n, M, {g})");
+        asked.push((title, head, rows.into()));
     }
-    tables
+    measured(asked, rounds)
 }
 
 fn grown([k, n, m, g]: [u32; 4]) -> (Shape, Vec<u32>) {
@@ -103,17 +98,26 @@ fn grown([k, n, m, g]: [u32; 4]) -> (Shape, Vec<u32>) {
     (shape, Load::new(shape, 1).grow())
 }
 
-fn measured(rows: Vec<(String, Kind, Shape, &[u32])>, rounds: usize) -> Vec<Row> {
-    eprintln!("measuring {} rows", rows.len());
-    let asked = rows.iter().map(|(_, kind, shape, grown)| measure::Row {
+fn measured(asked: Vec<(String, &'static str, Vec<Asked>)>, rounds: usize) -> Vec<Table> {
+    let rows = asked.iter().flat_map(|(_, _, rows)| rows);
+    let rows = rows.map(|(_, kind, shape, grown)| measure::Row {
         kind: *kind,
         shape: *shape,
         grown,
     });
-    let times = measure(&asked.collect::<Vec<_>>(), rounds);
-    let rows = rows.into_iter().zip(times);
-    rows.map(|((name, kind, _, _), times)| Row { name, kind, times })
-        .collect()
+    let rows: Vec<_> = rows.collect();
+    eprintln!("measuring {} rows", rows.len());
+    let mut times = measure(&rows, rounds).into_iter();
+    let table = |(title, head, rows): (String, &'static str, Vec<Asked>)| Table {
+        title,
+        head,
+        rows: rows
+            .into_iter()
+            .zip(&mut times)
+            .map(|((name, kind, _, _), times)| Row { name, kind, times })
+            .collect(),
+    };
+    asked.into_iter().map(table).collect()
 }
 
 fn described(shape: Shape, book: &[u32]) -> String {

@@ -1,11 +1,11 @@
--- Where the tests of a quick pass hold, the buckets are sound and the sum is their weight. Assumes nothing.
+-- Where the tests of a quick pass hold, the buckets are sound and none weighs more than the bits seen allow. Assumes nothing.
 use mathlib.Core.List.{List, [], _∷_, _++_}
 use mathlib.Core.Logic.{⊎-elim}
 use mathlib.Core.Path.{_≡_, refl, sym, _∙_}
 use Prim.Native.Nat.{ℕ, zero, suc, _+_, _-_, _*_, _/_, _%_, _^_, _≤_, _<_}
 use native.Mathlib.Nat.{mul-suc, mul-le-mul-right, pow-suc, mod-eq-of-lt}
 use native.Mathlib.Omega.{arith}
-use lib.Bits.{bitAnd, bitOr, bitXor, and-comm, and-mask, xor-shifted}
+use lib.Bits.{bitAnd, bitXor, and-comm, and-mask, xor-shifted}
 use lib.ListN.{length}
 use lib.Pow.{pow-pos, pow-mono}
 use borrow.Author.Tests.{le-leb, lt-leb}

@@ -1,6 +1,6 @@
 -- Where the tests of a quick pass by rows hold, the buckets are sound, and none weighs more than the largest that it may have seen. Assumes nothing.
 use mathlib.Core.Bool.{true, _&&_}
-use mathlib.Core.List.{List, [], _∷_, _++_}
+use mathlib.Core.List.{List, _++_}
 use mathlib.Core.Path.{_≡_, refl, sym, ap, _∙_}
 use Prim.Native.Nat.{ℕ, zero, suc, _+_, _-_, _*_, _/_, _%_, _^_, _≤_, _<_}
 use native.Mathlib.Nat.{add-zero, mul-le-mul-right, mod-eq-of-lt}
@@ -15,13 +15,13 @@ use Rattle.shape.specs.LimitsLaws.{both}
 use Rattle.model.specs.Level.{Bucket}
 use Rattle.model.specs.Words.{slots}
 use Rattle.model.specs.Sound.{weightOf, soundBuckets}
-use Rattle.laws.specs.SoundFacts.{Chained, SoundBuckets, buckets-tests}
+use Rattle.laws.specs.SoundFacts.{buckets-tests}
 use Rattle.laws.specs.LevelWords.{slots-all, length-slots}
 use Rattle.words.specs.Slot.{front, front-at, cons-same, part-all, moved}
 use Rattle.words.specs.Bits.{or-none, or-least, xor-none}
 use Rattle.pass.specs.Pass.{leastOf}
 use Rattle.pass.specs.PassLaws.{reached}
-use Rattle.quick.specs.Quick.{quickAll, quickEach, mostOf, enough, tried, fits}
+use Rattle.quick.specs.Quick.{quickEach, mostOf, enough, tried, fits}
 use Rattle.quick.specs.QuickLaws.{Enough, Leads, Held, firstWidth, mark-inside, quick-end, all-before, each-before, all-held, each-held, enough-tests, tried-tests}
 use Rattle.quick.specs.Rows.{opened, rowSlots, row, ending, seam, turn, turns, begun, joined, ReadRows, ByRows}
 use Rattle.quick.specs.declared.Quick.{Quick}

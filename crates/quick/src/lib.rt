@@ -17,7 +17,7 @@ ghost use Rattle.model.specs.Words.{slots};
 ghost use Rattle.model.specs.Sound.{weightOf, soundBuckets};
 ghost use Rattle.words.specs.Slot.{content};
 ghost use Rattle.quick.specs.Quick.{fresh, over, quickBucket, marked, quickEach, mostOf, enough, tried, fits};
-ghost use Rattle.quick.specs.Rows.{opened, row, ending, seam, turn, begun, joined, ReadRows, ByRows};
+ghost use Rattle.quick.specs.Rows.{opened, row, ending, seam, turn, joined, ReadRows, ByRows};
 
 // What a quick pass over the buckets of a level from 1 on has collected. Its tests are fewer, and ask more than soundness does: where
 // they fail, the other pass decides.
@@ -26,7 +26,8 @@ struct Quick {
     end: u32,
     // Bits that must be 0.
     faults: u32,
-    // The bits of numbers that must be below 2 ^ (k + 1): ends that are marked, and the number before the first length.
+    // The bits of numbers that must be below 2 ^ (k + 1): ends that are marked, the first offset of each row, and the number before the
+    // first length.
     reach: u32,
     // The bits of what each weight is above the least one.
     extra: u32,
@@ -277,8 +278,8 @@ fn is_enough(t: Quick, first: u32, k: u8) -> bool
     )
 }
 
-// Whether a quick pass is tried: not where the least weight is above 2 ^ 20, since the sum of 1024 weights that pass its tests may then
-// reach 2 ^ 32.
+// Whether a quick pass is tried: where the least weight is at most 2 ^ 20, since the sum of 1024 weights that pass its tests is then below
+// 2 ^ 32.
 fn is_tried(count: usize, i: u8) -> bool
     requires { ⌜ i ≤ 24 ⌝ }
     ensures { λ r. ⌜ r ≡ tried count i ⌝ }

@@ -1,21 +1,15 @@
--- The test that all words are zero, by the bits of two halves joined. Assumes nothing.
+-- The test that all words are zero, by the bits of four parts and of the words after them joined. Assumes nothing.
 use mathlib.Core.Bool.{Bool, true, false, _&&_, and-assoc}
 use mathlib.Core.List.{List, [], _∷_}
-use mathlib.Core.Logic.{⊎-elim}
 use mathlib.Core.Path.{_≡_, refl, sym, ap, _∙_}
-use Prim.Native.Nat.{ℕ, zero, suc, _+_, _-_, _≤_, _<_}
+use Prim.Native.Nat.{ℕ, zero, suc, _+_, _<_}
 use native.Mathlib.Numerals.{add-one}
-use native.Mathlib.Omega.{arith}
-use borrow.Author.Tests.{eqb-true, eq-eqb}
 use lib.Bits.{bitOr}
 use lib.Dec.{eqb}
-use lib.ListN.{length, getD, take, drop, drop-of-length-le}
-use lib.Seq.{drop-cons, drop-drop, getD-drop}
-use Rattle.shape.specs.LimitsLaws.{both}
+use lib.ListN.{length, getD, take, drop}
+use lib.Seq.{drop-cons, drop-drop}
 use Rattle.model.specs.Sound.{zeros}
-use Rattle.laws.specs.Cases.{lt-or-ge, and-true}
-use Rattle.laws.specs.Reflect.{tests-same, tests-equal, eqb-tests}
-use Rattle.words.specs.Bits.{or-none, none-or, or-tested}
+use Rattle.words.specs.Bits.{or-tested}
 
 zeros-step : (ws : List ℕ) (j : ℕ) → j < length ws → zeros (drop j ws) ≡ (eqb (getD ws j 0) 0 && zeros (drop (j + 1) ws))
 zeros-step ws j h = rw (drop-cons ws j 0, add-one)

@@ -226,8 +226,11 @@ fn ends_that_wrap_at_every_place() {
             let doubled = (22..32).map(|bit| [1 << bit, 1 << bit]);
             let all = ticks.chain(doubled).chain(sound.iter().copied());
             let buckets: Vec<Slot> = all.map(|[o, l]| [o, l, 2]).collect();
-            let book = Book::new(7, buckets.len() as u32, 2 * buckets.len() as u32);
-            book.check(1, &buckets, false);
+            // With the total just reached, and with one that no bound of the weights comes near.
+            for each in [2, 64] {
+                let book = Book::new(7, buckets.len() as u32, each * buckets.len() as u32);
+                book.check(1, &buckets, false);
+            }
         }
     }
 }

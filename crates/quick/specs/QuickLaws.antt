@@ -20,12 +20,6 @@ use Rattle.pass.specs.PassLaws.{before-is, aligned, chained-start}
 use Rattle.quick.specs.Quick.{above, over, quickBucket, quickAll, marked, quickEach, mostOf, enough, tried}
 use Rattle.quick.specs.declared.Quick.{Quick}
 
--- ---- what the code adds
-
--- one weight more, up to a multiple of 2 ^ 32
-pub added : (s x r t w : ℕ) → r ≡ (s + x) % 2 ^ 32 → t ≡ (r + w) % 2 ^ 32 → t ≡ (s + (x + w)) % 2 ^ 32
-added s x r t w p q = omega (arith, p, q)
-
 -- ---- the tests of one number
 
 -- the word that with y more, up to a multiple of 2 ^ 32, is x

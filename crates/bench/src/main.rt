@@ -1,8 +1,8 @@
 // The calls over standard input, one to a line, and their answers over standard output.
+use grammar::Parsed;
 use libc::STDIN_FILENO;
 use libc::STDOUT_FILENO;
 use lines::Line;
-use lines::Parsed;
 use model::Answer;
 use model::Call;
 use shape::Checked;
@@ -105,7 +105,7 @@ fn put_answer(out: &mut [u8], used: usize, answer: Answer) -> usize
     requires { ⌜ used + 32 ≤ length (now out) ⌝ }
     ensures { λ r. ⌜ r ≤ length (now (out .entry)) ⌝ }
 {
-    let added = lines::answer(answer, &mut out[used..]);
+    let added = text::answer(answer, &mut out[used..]);
     used + added
 }
 
@@ -113,7 +113,7 @@ fn put_unread(out: &mut [u8], used: usize) -> usize
     requires { ⌜ used + 32 ≤ length (now out) ⌝ }
     ensures { λ r. ⌜ r ≤ length (now (out .entry)) ⌝ }
 {
-    let added = lines::unread(&mut out[used..]);
+    let added = text::unread(&mut out[used..]);
     used + added
 }
 

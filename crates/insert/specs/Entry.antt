@@ -21,7 +21,7 @@ use Rattle.laws.specs.Proper.{Open}
 use Rattle.laws.specs.Rise.{Rising}
 use Rattle.laws.specs.SoundFacts.{Chained, SoundBuckets, SoundLevel, words-tests}
 use Rattle.laws.specs.Round.{Ends, Placed, place-parts, count-parts, chained-covering, rising-passed, rising-at}
-use Rattle.insert.specs.Steps.{Takes, takes-at, Becomes}
+use Rattle.buckets.specs.Steps.{Takes, takes-at, Becomes}
 use Rattle.insert.specs.Ready.{Upper, Covers, Ready, ready}
 
 weight-part : (before : List Bucket) (b : Bucket) (after : List Bucket) → b .weight ≤ weightOf (before ++ b ∷ after)

@@ -1,3 +1,2 @@
-pub mod Steps
 pub mod Ready
 pub mod Entry

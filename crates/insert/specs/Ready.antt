@@ -16,7 +16,7 @@ use Rattle.laws.specs.Batch.{insert-below}
 use Rattle.laws.specs.LevelWords.{decode-encode}
 use Rattle.laws.specs.LevelWrites.{slot-encode, set-weight}
 use Rattle.laws.specs.Round.{count-parts, Passed, passed-snoc, Round, both, upper, upper-held, upper-split, one-round}
-use Rattle.insert.specs.Steps.{Takes, takes-at, Becomes}
+use Rattle.buckets.specs.Steps.{Takes, takes-at, Becomes}
 
 -- the limits of a level from 1
 pub record Upper (n i : ℕ) : Type 0 where

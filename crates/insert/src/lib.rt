@@ -1,140 +1,20 @@
 // Writing one level of a histogram, on its part of the words.
+use buckets::gain;
+use buckets::put_at;
+use buckets::split_at;
 use scan::find;
 use shape::Shape;
 use words::long;
 use words::power;
 use words::wide;
-ghost use mathlib.Core.Bool.{cond};
-ghost use mathlib.Core.List.{[], _∷_};
 ghost use mathlib.Core.Path.{_≡_};
-ghost use Prim.Native.Nat.{_+_, _-_, _*_, _/_, _^_, _<_, _≤_};
-ghost use lib.Dec.{eqb};
-ghost use lib.ListN.{length, getD, set};
-ghost use Rattle.model.specs.Level.{bucketOf, insert};
-ghost use Rattle.model.specs.Words.{slot, decodeLevel, encodeLevel};
-ghost use Rattle.laws.specs.Buckets.{halves};
-ghost use Rattle.laws.specs.Moves.{raise, lower, putSlot};
+ghost use Prim.Native.Nat.{_+_, _*_, _≤_};
+ghost use lib.ListN.{length, getD};
+ghost use Rattle.model.specs.Level.{insert};
+ghost use Rattle.model.specs.Words.{decodeLevel, encodeLevel};
 ghost use Rattle.laws.specs.Proper.{Open};
-ghost use Rattle.insert.specs.Steps.{Takes, Becomes};
 ghost use Rattle.insert.specs.Ready.{Ready, Whole};
 ghost use Rattle.insert.specs.Entry.{At};
-
-// Writes m words from `from` on again one slot above.
-fn raise_words(level: &mut [u32], from: usize, m: usize)
-    requires { ⌜ from + 3 + m ≤ length (now level) ⌝ }
-    ensures { λ _. ⌜ now (level .exit) ≡ raise (now (level .entry)) from m ⌝ }
-{
-    let mut i = m;
-    while 0 < i {
-        i -= 1;
-        let w = level[from + i];
-        level[from + 3 + i] = w;
-    }
-}
-
-// Writes m words from the slot above `from` on again one slot below.
-fn lower_words(level: &mut [u32], from: usize, m: usize)
-    requires { ⌜ from + 3 + m ≤ length (now level) ⌝ }
-    ensures { λ _. ⌜ now (level .exit) ≡ lower (now (level .entry)) from m ⌝ }
-{
-    let mut i = 0;
-    while i < m {
-        let w = level[from + 3 + i];
-        level[from + i] = w;
-        i += 1;
-    }
-}
-
-// Stores the words of a bucket from `at` on.
-fn put_slot(level: &mut [u32], at: usize, offset: u32, width: u32, weight: u32)
-    requires { ⌜ at + 3 ≤ length (now level) ⌝ }
-    ensures { λ _. ⌜ now (level .exit) ≡ putSlot (now (level .entry)) at (bucketOf offset width weight) ⌝ }
-{
-    level[at] = offset;
-    level[at + 1] = width;
-    level[at + 2] = weight;
-}
-
-// The bucket of slot j gains v.
-fn gain(level: &mut [u32], j: usize, v: u64)
-    requires { ⌜ (5 + 3 * j ≤ length (now level)) × (slot (now level) j .weight + v < 2 ^ 32) ⌝ }
-    ensures { λ _. ⌜ now (level .exit) ≡ set (now (level .entry)) (2 + 3 * j + 2) (slot (now (level .entry)) j .weight + v) ⌝ }
-{
-    let at = 2 + 3 * j;
-    let weight = long(level[at + 2]);
-    level[at + 2] = (weight + v) as u32;
-}
-
-// Puts a bucket in at slot j of `count`: the slots from j on move one up.
-fn put_in(level: &mut [u32], j: usize, count: usize, offset: u32, width: u32, weight: u32)
-    requires { ⌜ (j ≤ count) × (5 + 3 * count ≤ length (now level)) × (count < 1024) ⌝ }
-    ensures { λ _. ⌜ now (level .exit)
-        ≡ set (putSlot (raise (now (level .entry)) (2 + 3 * j) (3 * (count - j))) (2 + 3 * j) (bucketOf offset width weight)) 0 (count + 1) ⌝ }
-{
-    let at = 2 + 3 * j;
-    raise_words(level, at, 3 * (count - j));
-    put_slot(level, at, offset, width, weight);
-    level[0] = (count + 1) as u32;
-}
-
-// Takes the lowest bucket out and puts another in at slot j: the slots up to j move one down.
-fn shift_in(level: &mut [u32], j: usize, offset: u32, width: u32, weight: u32)
-    requires { ⌜ 5 + 3 * j ≤ length (now level) ⌝ }
-    ensures { λ _. ⌜ now (level .exit) ≡ putSlot (lower (now (level .entry)) 2 (3 * j)) (2 + 3 * j) (bucketOf offset width weight) ⌝ }
-{
-    lower_words(level, 2, 3 * j);
-    put_slot(level, 2 + 3 * j, offset, width, weight);
-}
-
-// F once the lowest bucket of level i, at `offset`, is given up, where the next one stands at `next`.
-fn first_after(i: u8, offset: u32, next: u32) -> u32
-    requires { ⌜ offset < 2 ^ 31 ⌝ }
-    ensures { λ r. ⌜ r ≡ cond (eqb i 0) (offset + 1) next ⌝ }
-{
-    if i == 0 { offset + 1 } else { next }
-}
-
-// Puts a bucket in at slot j of level i. Where there is no room the lowest is given up, which may be the new one itself. Returns the
-// slot after the new one's.
-fn put_at(
-    level: &mut [u32],
-    n: usize,
-    i: u8,
-    j: usize,
-    offset: u32,
-    width: u32,
-    weight: u32,
-) -> usize
-    requires { ⌜ Takes n j (now level) × (offset < 2 ^ 31) × (0 < i → j < getD (now level) 0 0) ⌝ }
-    ensures { λ r. ⌜ Becomes n i j [] (bucketOf offset width weight ∷ []) (now (level .entry)) (now (level .exit)) r ⌝ }
-{
-    let count = wide(level[0]);
-    if count < n {
-        put_in(level, j, count, offset, width, weight);
-        return j + 1;
-    }
-    let lowest = level[2];
-    if j == 0 {
-        level[1] = first_after(i, offset, lowest);
-        return j;
-    }
-    shift_in(level, j - 1, offset, width, weight);
-    level[1] = first_after(i, lowest, level[2]);
-    j
-}
-
-// Makes the bucket of slot j two halves at level i. Where there is no room the lowest bucket is given up, which may be the lower
-// half. Returns the upper half's slot.
-fn split_at(level: &mut [u32], n: usize, i: u8, j: usize, half: u32) -> usize
-    requires { ⌜ Takes n j (now level) × (j < getD (now level) 0 0) × (half ≡ slot (now level) j .width / 2) × (slot (now level) j .offset + half < 2 ^ 31) × (i ≤ 31) ⌝ }
-    ensures { λ r. ⌜ Becomes n i j (slot (now (level .entry)) j ∷ []) (halves i (slot (now (level .entry)) j)) (now (level .entry)) (now (level .exit)) r ⌝ }
-{
-    let at = 2 + 3 * j;
-    let offset = level[at];
-    let weight = power(i);
-    put_slot(level, at, offset + half, half, weight);
-    put_at(level, n, i, j, offset, half, weight)
-}
 
 // Whether a bucket of this length stays whole at this weight: one that is full is split.
 fn stays_whole(width: u32, weight: u64, full: u64) -> bool

@@ -22,10 +22,10 @@ use Rattle.laws.specs.Proper.{Proper, Whole}
 use Rattle.laws.specs.Refusals.{numberOf-pos, viewOf, opened-accepted}
 use Rattle.model.specs.Claim.{ByCall}
 use Rattle.laws.specs.BookWords.{soundHead-limits, soundHead-clock, length-blockPart}
-use Rattle.judge.specs.declared.head.Opened.{Opened}
-use Rattle.judge.specs.declared.head.Opened.the-variants.{Book, Refused}
-use Rattle.judge.specs.Head.{openedNumber}
-use Rattle.judge.specs.Part.{InBook}
+use Rattle.book.specs.declared.head.Opened.{Opened}
+use Rattle.book.specs.declared.head.Opened.the-variants.{Book, Refused}
+use Rattle.book.specs.Head.{openedNumber}
+use Rattle.book.specs.Part.{InBook}
 
 abbrev pub firstRefusal : List ℕ → Call → ℕ
 firstRefusal ws call = firstOf (refusals (bookView ws) call)

@@ -1,3 +1,1 @@
-pub mod Head
-pub mod Part
 pub mod Judge

@@ -1,7 +1,7 @@
 // Judging a delivery on a book whose head is sound: the refusals that are left, in document 01's order.
-use crate::head::Opened;
-use crate::part::block_full;
-use crate::part::block_sound;
+use book::Opened;
+use book::block_full;
+use book::block_sound;
 use model::Refusal;
 use shape::Shape;
 ghost use mathlib.Core.Bool.{_||_};

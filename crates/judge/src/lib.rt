@@ -1,16 +1,13 @@
 // Judging a call on a book: its refusals in document 01's order, before a word is written.
 mod admit;
-mod head;
-mod part;
 
 use admit::judge_delivery_in;
-use head::MAX_CLOCK;
-pub use head::Opened;
-use head::open;
+use book::MAX_CLOCK;
+use book::Opened;
+use book::all_sound;
+use book::block_sound;
+use book::open;
 use model::Refusal;
-use part::all_sound;
-pub use part::block_at;
-use part::block_sound;
 use shape::Shape;
 ghost use Rattle.model.specs.declared.Call.the-variants as Call;
 ghost use Rattle.judge.specs.Judge.{Judges, Open};

@@ -1,4 +1,6 @@
 // The pass over the buckets of a level that decides whether they are sound.
+use pass_laws::Seen;
+use pass_laws::Verdict;
 use words::Slot;
 use words::both;
 use words::implied;
@@ -10,26 +12,7 @@ ghost use Prim.Native.Nat.{_+_, _*_, _≤_};
 ghost use lib.ListN.{length, getD};
 ghost use Rattle.model.specs.Words.{slots};
 ghost use Rattle.words.specs.Slot.{content};
-ghost use Rattle.pass.specs.Pass.{unseen, below, spread, seeSingle, seeBucket, seeOne, leastOf, seenLevel, weightSeen, soundSeen, Judged};
-
-// What a pass over the buckets of a level has collected. No fault ends the pass: it is to run without a branch, four slots at a time,
-// so all is in words of 32 bits, and is tested once a level.
-struct Seen {
-    // Where the next bucket is to start, or the least offset that it may have.
-    end: u32,
-    // Bits that must be 0.
-    faults: u32,
-    // The bits of numbers that must be below 2 ^ k.
-    reach: u32,
-    // The bits of weights that must be below 2 ^ (i + 1).
-    heavy: u32,
-    // How many numbers are less than they must be.
-    short: u32,
-    // The sum of the weights, up to a multiple of 2 ^ 32.
-    low: u32,
-    // The sum of the weights' upper halves.
-    high: u32,
-}
+ghost use Rattle.pass_laws.specs.Pass.{unseen, below, spread, seeSingle, seeBucket, seeOne, leastOf, seenLevel, weightSeen, soundSeen, Judged};
 
 // Before the first bucket.
 fn start(first: u32) -> Seen
@@ -148,12 +131,6 @@ fn sound_seen(t: Seen, first: u32, k: u8, i: u8) -> bool
     let ended = implied(0 < i, t.end == top);
     let held = both(t.heavy < high, both(t.short == 0, ended));
     both(first < top, both(t.faults == 0, both(t.reach < top, held)))
-}
-
-// The weight of a level's buckets, and whether they are sound.
-pub struct Verdict {
-    pub weight: u64,
-    pub sound: bool,
 }
 
 // By the pass that decides always.

@@ -1,4 +1,1 @@
-pub mod Head
-pub mod Sweeps
-pub mod Fill
 pub mod Outcome

@@ -27,9 +27,9 @@ use Rattle.laws.specs.BookWords.{limits-within, soundHead-limits, length-blockP
 use Rattle.laws.specs.Parts.{allFrom-elim, upFrom-cong, replicate-upFrom}
 use Rattle.laws.specs.Refusals.{numberOf-pos, settle-accepted, settle-refused, AcceptedClock, accepted-clock, AcceptedDelivery, accepted-delivery, AcceptedQuery, accepted-query}
 use Rattle.judge.specs.Judge.{firstRefusal, Open, open-size, open-proper}
-use Rattle.judge.specs.Part.{InBook}
-use Rattle.summary.specs.Sweeps.{AllSound, emptied, advanced}
-use Rattle.summary.specs.Fill.{Takes}
+use Rattle.book.specs.Part.{InBook}
+use Rattle.sweep.specs.Sweeps.{AllSound, emptied, advanced}
+use Rattle.fill.specs.Fill.{Takes}
 
 module _ (ws : List ℕ) (call : Call) where
   -- a refused call answers the number and changes nothing

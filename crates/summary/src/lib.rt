@@ -1,13 +1,8 @@
 // The calls on a whole book: make, clock, delivery and question. Each takes words of any length and content and any numbers; a refused call
 // leaves every word.
-mod fill;
-mod head;
-mod sweep;
-
+use book::Opened;
+use book::block_at;
 use fill::deliver_block;
-use head::write_head;
-use judge::Opened;
-use judge::block_at;
 use judge::judge_clock;
 use judge::judge_delivery;
 use judge::judge_query;
@@ -18,6 +13,7 @@ use shape::Checked;
 use shape::Shape;
 use sweep::advance_blocks;
 use sweep::clear_blocks;
+use sweep::write_head;
 ghost use mathlib.Core.Path.{_≡_};
 ghost use Rattle.model.specs.Block.{opening};
 ghost use Rattle.model.specs.Words.{shapeOf};

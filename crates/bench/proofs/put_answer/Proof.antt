@@ -1,8 +1,8 @@
 -- Every text is short, so it ends within the output.
 use native.Mathlib.Omega.{arith}
 use Rattle.model.specs.Reply.{replyOf}
-use Rattle.lines.specs.Text.{textOf}
-use Rattle.lines.specs.TextLaws.{text-short, written-short}
+use Rattle.text.specs.Text.{textOf}
+use Rattle.text.specs.TextLaws.{text-short, written-short}
 use borrow.Author.Needs.{needs}
 use Rattle.bench.proofs.put_answer.Statement.{statement}
 use Rattle.bench.proofs.put_answer.Tie as tie

@@ -1,7 +1,7 @@
 -- Every text is short, so it ends within the output.
 use native.Mathlib.Omega.{arith}
-use Rattle.lines.specs.Text.{unreadText}
-use Rattle.lines.specs.TextLaws.{unread-short, written-short}
+use Rattle.text.specs.Text.{unreadText}
+use Rattle.text.specs.TextLaws.{unread-short, written-short}
 use borrow.Author.Needs.{needs}
 use Rattle.bench.proofs.put_unread.Statement.{statement}
 use Rattle.bench.proofs.put_unread.Tie as tie

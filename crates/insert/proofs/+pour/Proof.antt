@@ -11,8 +11,8 @@ use Rattle.insert.specs.Ready.{Cut, filled, onward, next-upper, next-low
 use Rattle.insert.proofs.pour.Reads as pour
 use Rattle.insert.proofs.pour.Kinds as pour-kinds
 use Rattle.insert.proofs.+pour.Lts-pour as pour-lts
-use Rattle.insert.proofs.gain.Reads as gain-reads
-use Rattle.insert.proofs.split_at.Reads as split-at-reads
+use Rattle.buckets.proofs.gain.Reads as gain-reads
+use Rattle.buckets.proofs.split_at.Reads as split-at-reads
 use Rattle.insert.proofs.stays_whole.Reads as stays-whole-reads
 use Rattle.words.proofs.long.Reads as long-reads
 use Rattle.words.proofs.power.Reads as power-reads

@@ -5,9 +5,8 @@ use mathlib.Core.List.{foldl}
 use mathlib.Core.Path.{_≡_, _∙_}
 use Prim.Native.Nat.{_-_, _≤_}
 use lib.ListN.{length, drop, drop-of-length-le}
-use Rattle.lines.specs.Grammar.{grammar}
-use Rattle.lines.specs.Machine.{stepped, finished}
-use Rattle.lines.specs.Reading.{read-line}
+use Rattle.grammar.specs.Grammar.{grammar}
+use Rattle.lines.specs.Bytes.{stepped, finished, read-line}
 use native.Mathlib.Omega.{arith}
 use borrow.Author.Needs.{needs}
 use Rattle.lines.proofs.parse.Statement.{statement}

@@ -5,7 +5,7 @@ use lib.ListN.{length, getD}
 use borrow.Author.Needs.{needs}
 use Rattle.model.specs.Words.{slots}
 use Rattle.laws.specs.LevelWords.{length-slots}
-use Rattle.pass.specs.PassLaws.{seen-weight, seen-sound}
+use Rattle.pass_laws.specs.PassLaws.{seen-weight, seen-sound}
 use Rattle.pass.proofs.judge_seen.Statement.{statement}
 use Rattle.pass.proofs.judge_seen.Tie as tie
 

@@ -6,7 +6,7 @@ use lib.ListN.{length, getD, drop, length-drop}
 use borrow.Author.Needs.{needs}
 use Rattle.model.specs.Words.{slots}
 use Rattle.laws.specs.LevelWords.{slots-none, slots-all, length-slots}
-use Rattle.pass.specs.Pass.{unseen, seeOne, seeAll}
+use Rattle.pass_laws.specs.Pass.{unseen, seeOne, seeAll}
 use Rattle.words.specs.Slot.{front, front-slot, part-all, front-moved, slots-read}
 use Rattle.pass.proofs.see.Statement.{statement}
 use Rattle.pass.proofs.see.Tie as tie

@@ -2,8 +2,8 @@
 use Prim.Native.Nat.{_^_, _<_}
 use native.Mathlib.Omega.{arith}
 use borrow.Author.Needs.{needs}
-use Rattle.pass.specs.Pass.{seeBucket}
-use Rattle.pass.specs.PassLaws.{less-is}
+use Rattle.pass_laws.specs.Pass.{seeBucket}
+use Rattle.pass_laws.specs.PassLaws.{less-is}
 use Rattle.pass.proofs.see_bucket.Statement.{statement}
 use Rattle.pass.proofs.see_bucket.Tie as tie
 

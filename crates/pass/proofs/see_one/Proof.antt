@@ -2,7 +2,7 @@
 use Prim.Native.Nat.{_<_}
 use native.Mathlib.Omega.{arith}
 use borrow.Author.Needs.{needs}
-use Rattle.pass.specs.PassLaws.{one-upper}
+use Rattle.pass_laws.specs.PassLaws.{one-upper}
 use Rattle.pass.proofs.see_one.Statement.{statement}
 use Rattle.pass.proofs.see_one.Tie as tie
 

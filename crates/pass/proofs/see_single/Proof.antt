@@ -1,7 +1,7 @@
 -- The code computes the definition field by field; a weight's upper half is below 2 ^ 16.
 use native.Mathlib.Omega.{arith}
 use borrow.Author.Needs.{needs}
-use Rattle.pass.specs.Pass.{seeSingle}
+use Rattle.pass_laws.specs.Pass.{seeSingle}
 use Rattle.pass.proofs.see_single.Statement.{statement}
 use Rattle.pass.proofs.see_single.Tie as tie
 

@@ -4,7 +4,7 @@ use Prim.Native.Nat.{suc, _*_, _^_}
 use native.Mathlib.Omega.{arith}
 use lib.Pow.{pow-mono}
 use borrow.Author.Needs.{needs}
-use Rattle.pass.specs.Pass.{soundSeen}
+use Rattle.pass_laws.specs.Pass.{soundSeen}
 use Rattle.pass.proofs.sound_seen.Statement.{statement}
 use Rattle.pass.proofs.sound_seen.Tie as tie
 

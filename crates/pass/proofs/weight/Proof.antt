@@ -1,6 +1,6 @@
 -- The code computes the definition, in words that its sums do not overflow.
 use borrow.Author.Needs.{needs}
-use Rattle.pass.specs.Pass.{weightSeen}
+use Rattle.pass_laws.specs.Pass.{weightSeen}
 use Rattle.pass.proofs.weight.Statement.{statement}
 use Rattle.pass.proofs.weight.Tie as tie
 

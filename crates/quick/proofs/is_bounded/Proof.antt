@@ -1,7 +1,7 @@
 -- The code computes the bound.
 use native.Mathlib.Omega.{arith}
 use borrow.Author.Needs.{needs}
-use Rattle.quick.specs.QuickLaws.{product-fits}
+use Rattle.quick_laws.specs.QuickLaws.{product-fits}
 use Rattle.quick.proofs.is_bounded.Statement.{statement}
 use Rattle.quick.proofs.is_bounded.Tie as tie
 

@@ -1,6 +1,6 @@
 -- The code tests the factors of the definition, each once.
 use borrow.Author.Needs.{needs}
-use Rattle.quick.specs.Quick.{enough}
+use Rattle.quick_laws.specs.Quick.{enough}
 use Rattle.quick.proofs.is_enough.Statement.{statement}
 use Rattle.quick.proofs.is_enough.Tie as tie
 

@@ -1,6 +1,6 @@
 -- The code tests the factors of the definition, each once.
 use borrow.Author.Needs.{needs}
-use Rattle.quick.specs.Quick.{tried}
+use Rattle.quick_laws.specs.Quick.{tried}
 use Rattle.quick.proofs.is_tried.Statement.{statement}
 use Rattle.quick.proofs.is_tried.Tie as tie
 

@@ -2,8 +2,8 @@
 use native.Mathlib.Omega.{arith}
 use borrow.Author.Needs.{needs}
 use borrow.Author.Tests.{leb-true}
-use Rattle.quick.specs.QuickLaws.{tried-tests}
-use Rattle.quick.specs.RowsLaws.{enough-fits, bounded-fits}
+use Rattle.quick_laws.specs.QuickLaws.{tried-tests}
+use Rattle.quick_laws.specs.RowsLaws.{enough-fits, bounded-fits}
 use Rattle.quick.proofs.sound_buckets.Statement.{statement}
 use Rattle.quick.proofs.sound_buckets.Tie as tie
 

@@ -4,7 +4,7 @@ use borrow.Author.Needs.{needs}
 use borrow.Rule.Slice.PartMut.{post-is}
 use Prim.Native.Nat.{_+_}
 use native.Mathlib.Nat.{add-sub-cancel-left}
-use Rattle.judge.specs.Part.{block-within}
+use Rattle.book.specs.Part.{block-within}
 use Rattle.summary.specs.Outcome.{delivery-inside, delivery-takes, delivered-outcome}
 use Rattle.summary.proofs.deliver.Statement.{statement}
 use Rattle.summary.proofs.deliver.Tie as tie

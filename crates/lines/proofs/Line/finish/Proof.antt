@@ -1,7 +1,7 @@
 -- Within a number `call` answers, and every other state is unread.
 use mathlib.Core.Path.{_∙_}
-use Rattle.lines.specs.Grammar.{readingOf}
-use Rattle.lines.specs.Machine.{finished}
+use Rattle.grammar.specs.Grammar.{readingOf}
+use Rattle.lines.specs.Bytes.{finished}
 use borrow.Author.Needs.{needs}
 use Rattle.lines.proofs.Line.finish.Statement.{statement}
 use Rattle.lines.proofs.Line.finish.Tie as tie

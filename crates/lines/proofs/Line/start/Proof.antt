@@ -1,6 +1,6 @@
 -- The state of a line before its first byte is the definition's own.
 use mathlib.Core.Path.{refl}
-use Rattle.lines.specs.Machine.{started}
+use Rattle.lines.specs.Bytes.{started}
 use Rattle.lines.proofs.Line.start.Statement.{statement}
 use Rattle.lines.proofs.Line.start.Tie as tie
 

@@ -1,7 +1,7 @@
 -- The new state is what `advance` gives.
 use mathlib.Core.Path.{ap}
-use Rattle.lines.specs.declared.State.{State}
-use Rattle.lines.specs.Machine.{stepped}
+use Rattle.grammar.specs.declared.State.{State}
+use Rattle.lines.specs.Bytes.{stepped}
 use borrow.Author.Needs.{needs}
 use Rattle.lines.proofs.Line.step.Statement.{statement}
 use Rattle.lines.proofs.Line.step.Tie as tie

@@ -1,0 +1,64 @@
+// The head of a book: its shape and its clock, or why the call is refused.
+use model::Refusal;
+use shape::Checked;
+use shape::Shape;
+ghost use mathlib.Core.Path.{_≡_};
+ghost use Prim.Native.Nat.{_≤_};
+ghost use lib.ListN.{length};
+ghost use Rattle.book.specs.Head.{Opens, Shaped, isBlank};
+
+// The clock goes no further.
+pub const MAX_CLOCK: u32 = 2000000000;
+
+// What the first words of a book tell, or judging a call: the shape and the clock of the book, or the refusal.
+pub enum Opened {
+    Book { shape: Shape, clock: u32 },
+    Refused(Refusal),
+}
+
+// Whether the last three words of the head are zero.
+fn is_blank(book: &[u32]) -> bool
+    requires { ⌜ 8 ≤ length (now book) ⌝ }
+    ensures { λ r. ⌜ r ≡ isBlank (now (book .entry)) ⌝ }
+{
+    if book[5] != 0 {
+        return false;
+    }
+    if book[6] != 0 {
+        return false;
+    }
+    book[7] == 0
+}
+
+// A book of this shape: its clock, the last words of its head and its length are looked at.
+fn with_shape(book: &[u32], shape: Shape) -> Opened
+    requires { ⌜ Shaped (now book) shape ⌝ }
+    ensures { λ r. ⌜ Opens (now (book .entry)) r ⌝ }
+{
+    let clock = book[4];
+    let blank = is_blank(book);
+    let whole = book.len() == shape.book_len();
+    if MAX_CLOCK < clock {
+        return Opened::Refused(Refusal::Head);
+    }
+    if !blank {
+        Opened::Refused(Refusal::Head)
+    } else if !whole {
+        Opened::Refused(Refusal::Length)
+    } else {
+        Opened::Book { shape, clock }
+    }
+}
+
+// Words of any length and content.
+pub fn open(book: &[u32]) -> Opened
+    ensures { λ r. ⌜ Opens (now (book .entry)) r ⌝ }
+{
+    if book.len() < 8 {
+        return Opened::Refused(Refusal::Length);
+    }
+    match Shape::new(book[0], book[1], book[2], book[3]) {
+        Checked::Within(shape) => with_shape(book, shape),
+        Checked::Outside => Opened::Refused(Refusal::Head),
+    }
+}

@@ -3,7 +3,7 @@ use mathlib.Core.Bool.{Bool, true, false, cond, _&&_}
 use mathlib.Core.List.{List, _∷_}
 use mathlib.Core.Path.{_≡_, ap, _∙_}
 use Prim.Native.Nat.{ℕ, suc, _+_, _-_, _*_, _%_, _^_, _≤_, _<_}
-use native.Mathlib.Nat.{sub-zero, mul-le-mul-right}
+use native.Mathlib.Nat.{zero-add, sub-zero, mul-le-mul-right}
 use native.Mathlib.Numerals.{add-one}
 use native.Mathlib.Omega.{arith}
 use lib.ListN.{length, getD}
@@ -14,13 +14,14 @@ use Rattle.shape.specs.declared.Shape.{Shape}
 use Rattle.shape.specs.Layout.{levelWords, levelStart}
 use Rattle.shape.specs.LayoutLaws.{blockWords-bits}
 use Rattle.model.specs.Level.{Level}
-use Rattle.model.specs.Block.{upFrom, interval, offsetOf, sumFrom, serving, answer}
+use Rattle.model.specs.Block.{upFrom, interval, offsetOf, sumFrom, serving, servingIndex, answer}
 use Rattle.model.specs.Words.{levelPart, decodeLevel, decodeHalf, decodeBlock}
 use Rattle.model.specs.Sound.{allFrom, soundLevel, soundHalf}
 use Rattle.scan.specs.Steps.{sumFrom-zero}
 use Rattle.laws.specs.Tally.{sumFrom-falls}
 use Rattle.laws.specs.SoundFacts.{slots-length}
 use Rattle.laws.specs.Kept.{sound-serves}
+use Rattle.laws.specs.BlockKept.{serving-index}
 use Rattle.laws.specs.BlockWords.{levelStart-fits}
 use Rattle.laws.specs.Halves.{halfOf-decode, total-decode, whole-total, whole-level}
 use Rattle.laws.specs.Proper.{Sized, Whole}
@@ -62,12 +63,13 @@ module _ (s : Shape) (parity : ℕ) (ws : List ℕ) (i : ℕ) where
     pub soundFrom-step : soundFrom s parity ws i ≡ (soundAt s parity ws i && soundFrom s parity ws (i + 1))
     soundFrom-step = ap (allFrom (soundAt s parity ws) i) count ∙ rw (← add-one i)
 
-    -- the level serves what lies at its first kept offset or above
-    pub serving-here : (a : ℕ) → levelAt s parity ws i .first ≤ a → levelAt s parity ws i ≡ serving a (levelsFrom s parity ws i)
-    serving-here a h = rw (levelsFrom-step, le-leb (levelAt s parity ws i .first) a h)
+    -- the level serves what lies at its first kept offset or above, and leaves what lies below to the next
+    pub index-here : (a : ℕ) → levelAt s parity ws i .first ≤ a → servingIndex a (levelsFrom s parity ws i) ≡ 0
+    index-here a h = rw (levelsFrom-step, le-leb (levelAt s parity ws i .first) a h)
 
-    pub serving-next : (a : ℕ) → a < levelAt s parity ws i .first → serving a (levelsFrom s parity ws (i + 1)) ≡ serving a (levelsFrom s parity ws i)
-    serving-next a h = rw (levelsFrom-step, lt-leb (levelAt s parity ws i .first) a h)
+    pub index-next : (a : ℕ) → a < levelAt s parity ws i .first
+        → servingIndex a (levelsFrom s parity ws i) ≡ suc (servingIndex a (levelsFrom s parity ws (i + 1)))
+    index-next a h = rw (levelsFrom-step, lt-leb (levelAt s parity ws i .first) a h)
 
   pub soundFrom-none : s .last < i → soundFrom s parity ws i ≡ true
   soundFrom-none h = ap (allFrom (soundAt s parity ws) i) {x = suc (s .last) - i} {y = 0} (omega arith)
@@ -105,14 +107,23 @@ module _ (s : Shape) (ws : List ℕ) (w : Whole s ws) (parity : ℕ) (p : parity
       omega (arith, whole-level s ws w parity p i low .within, total-small, sumFrom-falls bs 0 a (omega arith), sumFrom-zero bs)
 
   -- the last level has given nothing up, so it serves every offset
-  pub last-serves : (a : ℕ) → levelAt s parity ws (s .last) ≡ serving a (levelsFrom s parity ws (s .last))
-  last-serves a =
-      let l : Level = levelAt s parity ws (s .last) in
+  last-first : levelAt s parity ws (s .last) .first ≡ 0
+  last-first =
       let same = ap (λ (z : ℕ). 2 ^ z) (w .proper .last) in
       let small : getD ws parity 0 < s .n * 2 ^ s .last =
       omega (arith, whole-total s ws w parity p, pow-pos (s .last), mul-le-mul-right {m = 2} {n = s .n} (2 ^ s .last) (w .proper .limits .low-n)) in
-      let whole : l .first ≡ 0 = sound-serves (w .proper .limits .low-n) (whole-level s ws w parity p (s .last) (omega arith)) small in
-      serving-here s parity ws (s .last) (omega arith) a (omega arith)
+      sound-serves (w .proper .limits .low-n) (whole-level s ws w parity p (s .last) (omega arith)) small
+
+  pub last-index : (a : ℕ) → servingIndex a (levelsFrom s parity ws (s .last)) ≡ 0
+  last-index a = index-here s parity ws (s .last) (omega arith) a (omega (arith, last-first))
+
+  -- the level of the serving index is one of the half's, and the one that serves
+  pub index-serves : (a : ℕ) → let levels = decodeHalf s parity ws .levels in
+      (servingIndex a levels ≤ s .last) × (levelAt s parity ws (servingIndex a levels) ≡ serving a levels)
+  unfolding decodeHalf
+  index-serves a =
+      let r = serving-index a (levelAt s parity ws) (s .last) 0 (rw zero-add last-first) in
+      (r .0, rw zero-add at (r .1))
 
 -- the answer, read from the words
 pub answer-decode : (s : Shape) (clock start : ℕ) (ws : List ℕ) → answer s clock start (decodeBlock s ws) ≡ (

@@ -8,10 +8,10 @@ ghost use Prim.Native.Nat.{_+_, _%_, _^_, _≤_};
 ghost use lib.Dec.{ltb};
 ghost use lib.ListN.{length, getD};
 ghost use Rattle.model.specs.Words.{levelPart, decodeHalf, decodeBlock};
-ghost use Rattle.model.specs.Block.{interval, halfOf, serving, answer};
+ghost use Rattle.model.specs.Block.{interval, halfOf, servingIndex, answer};
 ghost use Rattle.model.specs.Sound.{soundHalf, soundBlock};
 ghost use Rattle.laws.specs.Proper.{Sized, Whole};
-ghost use Rattle.block.specs.Steps.{LevelIn, levelAt};
+ghost use Rattle.block.specs.Steps.{LevelIn};
 
 // What a half holds at most.
 fn capacity(s: Shape) -> u64
@@ -82,7 +82,7 @@ pub fn check(block: &[u32], s: Shape) -> bool
 // The finest level of a half that still covers offset a. The last one always does, so it is not asked.
 fn finest(block: &[u32], s: Shape, parity: u8, a: u32) -> u8
     requires { ⌜ Whole s (now block) × (parity ≤ 1) ⌝ }
-    ensures { λ r. ⌜ (r ≤ s .last) × (levelAt s parity (now (block .entry)) r ≡ serving a (decodeHalf s parity (now (block .entry)) .levels)) ⌝ }
+    ensures { λ r. ⌜ r ≡ servingIndex a (decodeHalf s parity (now (block .entry)) .levels) ⌝ }
 {
     let mut finest: u8 = 0;
     while finest < s.last {

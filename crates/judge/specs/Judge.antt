@@ -86,7 +86,7 @@ roomRefusal s ws grade stamp volume =
 
 -- a call that begins like the others
 abbrev pub Begins : Call → Type 0
-Begins = ByCall ⊥ (Unit {0}) (λ _. Unit {0}) (λ _. Unit {0})
+Begins = ByCall ⊥ (Unit {0}) (λ _. Unit {0}) (λ _ _. Unit {0})
 
 -- the refusals of such a call after those that it begins with
 abbrev pub restOf : View → Call → List (Bool × ℕ)

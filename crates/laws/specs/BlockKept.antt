@@ -10,10 +10,11 @@ use native.Mathlib.Omega.{arith}
 use lib.Dec.{eqb}
 use lib.Pow.{pow-pos}
 use lib.ListN.{length}
+use borrow.Author.Tests.{le-leb, lt-leb}
 use Rattle.shape.specs.declared.Shape.{Shape}
 use Rattle.shape.specs.Layout.{blockWords}
 use Rattle.model.specs.Level.{Level, insert, emptyLevel}
-use Rattle.model.specs.Block.{Half, Block, upFrom, emptyHalf, insertAll, deliverHalf, deliver, halfOf, interval, offsetOf, advance, empties, serving}
+use Rattle.model.specs.Block.{Half, Block, upFrom, emptyHalf, insertAll, deliverHalf, deliver, halfOf, interval, offsetOf, advance, empties, serving, servingIndex}
 use Rattle.model.specs.Words.{encodeBlock}
 use Rattle.model.specs.Sound.{soundBlock}
 use Rattle.laws.specs.Cases.{by-test, by-le, lt-or-ge}
@@ -39,6 +40,19 @@ pub record Served (a : ℕ) (f : ℕ → Level) (i last : ℕ) (l : Level) : Typ
   pub same : l ≡ f index
   pub held : f index .first ≤ a
   pub finer : (j : ℕ) → i ≤ j → j < index → a < f j .first
+
+-- of levels i to i + d, of which the last is whole, the one of the serving index serves
+pub serving-index : (a : ℕ) (f : ℕ → Level) (d i : ℕ) → f (i + d) .first ≡ 0
+    → (servingIndex a (upFrom f i (suc d)) ≤ d) × (f (i + servingIndex a (upFrom f i (suc d))) ≡ serving a (upFrom f i (suc d)))
+serving-index a f zero i whole = rw (le-leb (f i .first) a (omega (arith, rw add-zero at whole))) (omega arith, ap f {x = i + 0} {y = i} (omega arith))
+serving-index a f (suc d) i whole =
+    ⊎-elim
+    (λ (above : a < f i .first).
+    let r = serving-index a f d (suc i) (rw (add-suc, ← suc-add) at whole) in
+    let next : ℕ = servingIndex a (upFrom f (suc i) (suc d)) in
+    rw (lt-leb (f i .first) a above) (omega (arith, r .0), ap f {x = i + suc next} {y = suc i + next} (omega arith) ∙ r .1))
+    (λ (held : f i .first ≤ a). rw (le-leb (f i .first) a held) (omega arith, ap f {x = i + 0} {y = i} (omega arith)))
+    (lt-or-ge a (f i .first))
 
 module _ (s : Shape) (proper : Proper s) where
   -- an empty half is sound

@@ -66,6 +66,10 @@ abbrev pub serving : ℕ → List Level → Level  -- the finest level with F at
 serving a [] = levelOf 0 []
 serving a (l ∷ ls) = cond (leb (l .first) a) l (serving a ls)
 
+abbrev pub servingIndex : ℕ → List Level → ℕ  -- which of the levels that is, level 0 being the first
+servingIndex a [] = 0
+servingIndex a (l ∷ ls) = cond (leb (l .first) a) 0 (suc (servingIndex a ls))
+
 unfoldable pub answer : Shape → ℕ → ℕ → Block → ℕ  -- the sum of a window that opens at stamp `start`
 answer s clock start b =
     let from = interval s start in

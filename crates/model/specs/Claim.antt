@@ -28,13 +28,13 @@ abbrev pub Each : {A : Type 0} → (A → Type 0) → List A → Type 0
 Each P [] = Unit {0}
 Each P (x ∷ xs) = P x × Each P xs
 
-abbrev pub ByCall : Type 0 → Type 0 → (ℕ → Type 0) → (ℕ → Type 0) → Call → Type 0  -- of a delivery by its stamp, of a question by its window
+abbrev pub ByCall : Type 0 → Type 0 → (ℕ → Type 0) → (ℕ → ℕ → Type 0) → Call → Type 0  -- of a delivery by its stamp, of a question by grade and window
 ByCall make clock delivery query (Make k n m g) = make
 ByCall make clock delivery query (Clock to) = clock
 ByCall make clock delivery query (Delivery grade stamp volume) = delivery stamp
-ByCall make clock delivery query (Query grade window) = query window
+ByCall make clock delivery query (Query grade window) = query grade window
 
-abbrev pub OfQuery : (ℕ → Type 0) → Call → Type 0  -- nothing is said of the calls other than questions
+abbrev pub OfQuery : (ℕ → ℕ → Type 0) → Call → Type 0  -- nothing is said of the calls other than questions
 OfQuery = ByCall (Unit {0}) (Unit {0}) (λ stamp. Unit {0})
 
 pub record Admits (n k book exact : ℕ) : Type 0 where  -- |book - exact| × (n - k - 1) ≤ 2 × (k + 1) × exact
@@ -44,18 +44,18 @@ pub record Admits (n k book exact : ℕ) : Type 0 where  -- |book - exact| × (n
 abbrev pub Bound : Turn → Type 0  -- an answered question keeps the bound where n is above k + 1, by the shape then in force
 Bound t =
     let s = t .ledger .shape in
-    OfQuery (λ window. t .book .number ≡ 0 → s .k + 1 < s .n → Admits (s .n) (s .k) (getD (t .book .values) 0 0) (getD (t .exact .values) 0 0)) (t .call)
+    OfQuery (λ grade window. t .book .number ≡ 0 → s .k + 1 < s .n → Admits (s .n) (s .k) (getD (t .book .values) 0 0) (getD (t .exact .values) 0 0)) (t .call)
 
 abbrev pub Span : (Turn → Type 0) → List Turn → Type 0  -- P holds of every turn up to the next accepted make, with which the span ends
 Span P [] = Unit {0}
-Span P (t ∷ ts) = let here = P t × Span P ts in ByCall ((t .book .number ≡ 0 → ⊥) → here) here (λ stamp. here) (λ window. here) (t .call)
+Span P (t ∷ ts) = let here = P t × Span P ts in ByCall ((t .book .number ≡ 0 → ⊥) → here) here (λ stamp. here) (λ grade window. here) (t .call)
 
 abbrev pub Outside : ℕ → Turn → Type 0  -- a question with a window of at most 2^k, of any grade, answered or not, does not cover the stamp
-Outside stamp t = OfQuery (λ window. window ≤ 2 ^ t .ledger .shape .k → covers (t .ledger .clock) window stamp ≡ false) (t .call)
+Outside stamp t = OfQuery (λ grade window. window ≤ 2 ^ t .ledger .shape .k → covers (t .ledger .clock) window stamp ≡ false) (t .call)
 
 abbrev pub Missed : List Turn → Type 0  -- each delivery refused as late lies in no such window asked for later in its span
 Missed [] = Unit {0}
-Missed (t ∷ ts) = ByCall (Unit {0}) (Unit {0}) (λ stamp. t .book .number ≡ 9 → Span (Outside stamp) ts) (λ window. Unit {0}) (t .call) × Missed ts
+Missed (t ∷ ts) = ByCall (Unit {0}) (Unit {0}) (λ stamp. t .book .number ≡ 9 → Span (Outside stamp) ts) (λ grade window. Unit {0}) (t .call) × Missed ts
 
 pub record Kept (turns : List Turn) : Type 0 where
   pub same : Each (λ t. t .book .number ≡ t .exact .number) turns  -- accepted alike, refused under the same numbers

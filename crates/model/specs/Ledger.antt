@@ -27,11 +27,14 @@ abbrev pub volumeOf : (Entry → Bool) → List Entry → ℕ  -- the volumes of
 volumeOf p [] = 0
 volumeOf p (e ∷ es) = cond (p e) (e .volume) 0 + volumeOf p es
 
-abbrev pub ofInterval : Shape → ℕ → ℕ → Entry → Bool  -- an entry of this grade in interval j
-ofInterval s grade j e = eqb (e .grade) grade && eqb (interval s (e .stamp)) j
+abbrev pub ofGrade : ℕ → Entry → Bool  -- an entry of this grade
+ofGrade grade e = eqb (e .grade) grade
 
-abbrev pub ofWindow : ℕ → ℕ → ℕ → Entry → Bool  -- an entry of this grade whose stamp the window covers
-ofWindow clock grade window e = eqb (e .grade) grade && covers clock window (e .stamp)
+abbrev pub ofInterval : Shape → (Entry → Bool) → ℕ → Entry → Bool  -- an entry that satisfies a test, in interval j
+ofInterval s p j e = p e && eqb (interval s (e .stamp)) j
+
+abbrev pub ofWindow : ℕ → (Entry → Bool) → ℕ → Entry → Bool  -- an entry that satisfies a test, whose stamp the window covers
+ofWindow clock p window e = p e && covers clock window (e .stamp)
 
 unfoldable pub ledgerView : ℕ → Ledger → View  -- 7 and 11 never hold; a half's total is the sum of the ledger's own entries
 ledgerView lent l = record {
@@ -40,7 +43,7 @@ ledgerView lent l = record {
   shape = l .shape;
   clock = l .clock;
   blockSound = λ grade. true;
-  total = λ grade stamp. volumeOf (ofInterval (l .shape) grade (interval (l .shape) stamp)) (l .entries);
+  total = λ grade stamp. volumeOf (ofInterval (l .shape) (ofGrade grade) (interval (l .shape) stamp)) (l .entries);
 }
 
 abbrev pub note : Ledger → Call → Outcome Ledger  -- an accepted call
@@ -48,7 +51,7 @@ note l (Make k n m g) = outcomeOf (accepted []) (ledgerOf (shaped k n m g) 0 [])
 note l (Clock clock) = outcomeOf (accepted []) (ledgerOf (l .shape) clock (l .entries))
 note l (Delivery grade stamp volume) =
     outcomeOf (accepted []) (ledgerOf (l .shape) (l .clock) (record { grade = grade; stamp = stamp; volume = volume } ∷ l .entries))
-note l (Query grade window) = outcomeOf (accepted (volumeOf (ofWindow (l .clock) grade window) (l .entries) ∷ [])) l
+note l (Query grade window) = outcomeOf (accepted (volumeOf (ofWindow (l .clock) (ofGrade grade) window) (l .entries) ∷ [])) l
 
 unfoldable pub enter : ℕ → Ledger → Call → Outcome Ledger  -- a call that is lent so many words
 enter lent l call = settle (refusals (ledgerView lent l) call) l (note l call)

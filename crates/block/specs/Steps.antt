@@ -11,7 +11,7 @@ use lib.Pow.{pow-pos, pow-mono}
 use lib.Dec.{eqb}
 use borrow.Author.Tests.{le-leb, lt-leb}
 use Rattle.shape.specs.declared.Shape.{Shape}
-use Rattle.shape.specs.Layout.{levelWords, levelStart}
+use Rattle.shape.specs.Layout.{totalStart, levelWords, levelStart}
 use Rattle.shape.specs.LayoutLaws.{blockWords-bits}
 use Rattle.model.specs.Level.{Level}
 use Rattle.model.specs.Block.{upFrom, interval, offsetOf, sumFrom, serving, servingIndex, answer}
@@ -46,7 +46,7 @@ levelsFrom s parity ws i = upFrom (levelAt s parity ws) i (suc (s .last) - i)
 
 -- whether level i is sound
 abbrev pub soundAt : Shape → ℕ → List ℕ → ℕ → Bool
-soundAt s parity ws i = soundLevel s i (getD ws parity 0) (levelPart s parity i ws)
+soundAt s parity ws i = soundLevel s i (getD ws (totalStart parity) 0) (levelPart s parity i ws)
 
 -- whether the levels from level i on are
 abbrev pub soundFrom : Shape → ℕ → List ℕ → ℕ → Bool
@@ -80,14 +80,14 @@ module _ (s : Shape) (parity : ℕ) (ws : List ℕ) where
   unfolding decodeHalf
   levelsFrom-all = rw sub-zero
 
-  pub soundFrom-all : getD ws parity 0 ≤ 2 ^ s .m → soundFrom s parity ws 0 ≡ soundHalf s parity ws
+  pub soundFrom-all : getD ws (totalStart parity) 0 ≤ 2 ^ s .m → soundFrom s parity ws 0 ≡ soundHalf s parity ws
   unfolding soundHalf
-  soundFrom-all h = rw (le-leb (getD ws parity 0) (2 ^ s .m) h, sub-zero)
+  soundFrom-all h = rw (le-leb (getD ws (totalStart parity) 0) (2 ^ s .m) h, sub-zero)
 
   -- a half that holds too much
-  pub soundHalf-over : 2 ^ s .m < getD ws parity 0 → false ≡ soundHalf s parity ws
+  pub soundHalf-over : 2 ^ s .m < getD ws (totalStart parity) 0 → false ≡ soundHalf s parity ws
   unfolding soundHalf
-  soundHalf-over h = rw (lt-leb (getD ws parity 0) (2 ^ s .m) h)
+  soundHalf-over h = rw (lt-leb (getD ws (totalStart parity) 0) (2 ^ s .m) h)
 
 module _ (s : Shape) (ws : List ℕ) (w : Whole s ws) (parity : ℕ) (p : parity ≤ 1) where
   -- the count of a level fits
@@ -98,7 +98,7 @@ module _ (s : Shape) (ws : List ℕ) (w : Whole s ws) (parity : ℕ) (p : parity
       omega (arith, whole-level s ws w parity p i low .few, slots-length part 0 (getD part 0 0))
 
   -- totals and sums are small
-  pub total-small : getD ws parity 0 ≤ 2 ^ 24
+  pub total-small : getD ws (totalStart parity) 0 ≤ 2 ^ 24
   total-small = omega (arith, whole-total s ws w parity p, pow-mono {i = s .m} {j = 24} (omega arith))
 
   pub sum-small : (i : ℕ) → i ≤ s .last → (a : ℕ) → sumFrom a (levelAt s parity ws i .buckets) ≤ 2 ^ 24
@@ -110,7 +110,7 @@ module _ (s : Shape) (ws : List ℕ) (w : Whole s ws) (parity : ℕ) (p : parity
   last-first : levelAt s parity ws (s .last) .first ≡ 0
   last-first =
       let same = ap (λ (z : ℕ). 2 ^ z) (w .proper .last) in
-      let small : getD ws parity 0 < s .n * 2 ^ s .last =
+      let small : getD ws (totalStart parity) 0 < s .n * 2 ^ s .last =
       omega (arith, whole-total s ws w parity p, pow-pos (s .last), mul-le-mul-right {m = 2} {n = s .n} (2 ^ s .last) (w .proper .limits .low-n)) in
       sound-serves (w .proper .limits .low-n) (whole-level s ws w parity p (s .last) (omega arith)) small
 

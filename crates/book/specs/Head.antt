@@ -9,7 +9,7 @@ use lib.ListN.{length, getD}
 use borrow.Author.Tests.{lt-ltb, le-ltb, le-leb, lt-leb}
 use Rattle.shape.specs.declared.Shape.{Shape}
 use Rattle.shape.specs.Limits.{within}
-use Rattle.shape.specs.Layout.{bookWords}
+use Rattle.shape.specs.Layout.{headLen, bookWords}
 use Rattle.model.specs.Words.{shapeOf, clockOf}
 use Rattle.model.specs.Sound.{soundHead, maxClock}
 use Rattle.model.specs.Calls.{firstOf, opened, bookView}
@@ -31,18 +31,18 @@ isBlank ws = eqb (getD ws 5 0) 0 && (eqb (getD ws 6 0) 0 && eqb (getD ws 7 0) 0)
 
 -- words long enough for a head whose shape is within its limits
 pub record Shaped (ws : List ℕ) (s : Shape) : Type 0 where
-  pub long : 8 ≤ length ws
+  pub long : headLen ≤ length ws
   pub inside : within (getD ws 0 0) (getD ws 1 0) (getD ws 2 0) (getD ws 3 0) ≡ true
   pub same : s ≡ shapeOf ws
 
 module _ (ws : List ℕ) where
-  pub opened-short : length ws < 8 → openedNumber ws ≡ 2
+  pub opened-short : length ws < headLen → openedNumber ws ≡ 2
   unfolding openedNumber bookView
-  opened-short h = rw (lt-ltb (length ws) 8 h)
+  opened-short h = rw (lt-ltb (length ws) headLen h)
 
-  pub opened-unsound : 8 ≤ length ws → soundHead ws ≡ false → openedNumber ws ≡ 7
+  pub opened-unsound : headLen ≤ length ws → soundHead ws ≡ false → openedNumber ws ≡ 7
   unfolding openedNumber bookView
-  opened-unsound long h = rw (le-ltb (length ws) 8 long, h)
+  opened-unsound long h = rw (le-ltb (length ws) headLen long, h)
 
   pub head-outside : within (getD ws 0 0) (getD ws 1 0) (getD ws 2 0) (getD ws 3 0) ≡ false → soundHead ws ≡ false
   unfolding soundHead
@@ -56,4 +56,4 @@ module _ (ws : List ℕ) where
 
     pub opened-rest : clockOf ws ≤ maxClock → openedNumber ws ≡ cond (not (isBlank ws)) 7 (cond (not (eqb (length ws) (bookWords s))) 2 0)
     unfolding openedNumber bookView soundHead
-    opened-rest early = rw (le-ltb (length ws) 8 (h .long), h .inside, le-leb (clockOf ws) maxClock early, h .same)
+    opened-rest early = rw (le-ltb (length ws) headLen (h .long), h .inside, le-leb (clockOf ws) maxClock early, h .same)

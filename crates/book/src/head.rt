@@ -1,10 +1,12 @@
 // The head of a book: its shape and its clock, or why the call is refused.
 use model::Refusal;
 use shape::Checked;
+use shape::HEAD_LEN;
 use shape::Shape;
 ghost use mathlib.Core.Path.{_≡_};
 ghost use Prim.Native.Nat.{_≤_};
 ghost use lib.ListN.{length};
+ghost use Rattle.shape.specs.Layout.{headLen};
 ghost use Rattle.book.specs.Head.{Opens, Shaped, isBlank};
 
 // The clock goes no further.
@@ -18,7 +20,7 @@ pub enum Opened {
 
 // Whether the last three words of the head are zero.
 fn is_blank(book: &[u32]) -> bool
-    requires { ⌜ 8 ≤ length (now book) ⌝ }
+    requires { ⌜ headLen ≤ length (now book) ⌝ }
     ensures { λ r. ⌜ r ≡ isBlank (now (book .entry)) ⌝ }
 {
     if book[5] != 0 {
@@ -54,7 +56,7 @@ fn with_shape(book: &[u32], shape: Shape) -> Opened
 pub fn open(book: &[u32]) -> Opened
     ensures { λ r. ⌜ Opens (now (book .entry)) r ⌝ }
 {
-    if book.len() < 8 {
+    if book.len() < HEAD_LEN {
         return Opened::Refused(Refusal::Length);
     }
     match Shape::new(book[0], book[1], book[2], book[3]) {

@@ -6,6 +6,7 @@ use native.Mathlib.Omega.{arith}
 use lib.ListN.{getD}
 use lib.Pow.{pow-mono}
 use Rattle.shape.specs.declared.Shape.{Shape}
+use Rattle.shape.specs.Layout.{totalStart}
 use Rattle.model.specs.Level.{insert}
 use Rattle.model.specs.Block.{interval, offsetOf}
 use Rattle.model.specs.Words.{levelPart, decodeLevel, encodeLevel}
@@ -27,7 +28,7 @@ pub record Fills (s : Shape) (stamp parity x v : ℕ) (ws : List ℕ) : Type 0 w
   pub place : x ≡ offsetOf s stamp
 
 -- the total with the volume fits a word
-pub total-fits : {s : Shape} {stamp parity x v : ℕ} {ws : List ℕ} → Fills s stamp parity x v ws → getD ws parity 0 + v < 2 ^ 32
+pub total-fits : {s : Shape} {stamp parity x v : ℕ} {ws : List ℕ} → Fills s stamp parity x v ws → getD ws (totalStart parity) 0 + v < 2 ^ 32
 total-fits {s} {ws} f =
     omega (arith, ap (λ (z : ℕ). getD ws z 0) (f .half), f .takes .room, pow-mono {i = s .m} {j = 24} (f .takes .whole .proper .limits .high-m))
 

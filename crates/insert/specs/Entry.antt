@@ -9,6 +9,7 @@ use native.Mathlib.Omega.{arith}
 use lib.ListN.{length, getD, set}
 use lib.Pow.{pow-mono}
 use Rattle.shape.specs.declared.Shape.{Shape}
+use Rattle.shape.specs.Layout.{slotStart}
 use Rattle.model.specs.Level.{Bucket, bucketOf, levelOf, insert}
 use Rattle.model.specs.Words.{slot, decodeLevel, encodeLevel}
 use Rattle.model.specs.Sound.{weightOf}
@@ -40,7 +41,7 @@ module _ {s : Shape} {i x v : ℕ} {ws : List ℕ} (o : Open s i x v ws) where
   few = omega (arith, sound .few, length-slots ws 0 (getD ws 0 0))
 
   -- what the search asks of a level
-  pub searchable : (2 + 3 * getD ws 0 0 ≤ length ws) × EndsRise 0 (decodeLevel ws .buckets)
+  pub searchable : (slotStart (getD ws 0 0) ≤ length ws) × EndsRise 0 (decodeLevel ws .buckets)
   searchable = (omega (arith, few, o .size), sound-rises (s .k) i (decodeLevel ws .first) (decodeLevel ws .buckets) (sound .parts))
 
   -- x stands below F
@@ -161,17 +162,17 @@ module _ {s : Shape} {x v : ℕ} {ws : List ℕ} {j : ℕ} (e : Found s 0 x v ws
 
   -- the bucket of slot j is that of x, and gains v
   pub gains : j < getD ws 0 0 → slot ws j .offset ≡ x
-      → (slot ws j .weight + v < 2 ^ 32) × (set ws (2 + 3 * j + 2) (slot ws j .weight + v) ≡ encodeLevel (s .n) (insert (s .n) 0 x v (decodeLevel ws)))
+      → (slot ws j .weight + v < 2 ^ 32) × (set ws (slotStart j + 2) (slot ws j .weight + v) ≡ encodeLevel (s .n) (insert (s .n) 0 x v (decodeLevel ws)))
   gains inside at = go (p .after) (p .same)
     where
       go : (after : List Bucket) → bs e ≡ p .before ++ after
-          → (slot ws j .weight + v < 2 ^ 32) × (set ws (2 + 3 * j + 2) (slot ws j .weight + v) ≡ encodeLevel (s .n) (insert (s .n) 0 x v (decodeLevel ws)))
+          → (slot ws j .weight + v < 2 ^ 32) × (set ws (slotStart j + 2) (slot ws j .weight + v) ≡ encodeLevel (s .n) (insert (s .n) 0 x v (decodeLevel ws)))
       go [] same = absurd (omega (arith, count-parts (s .n) f (p .before) [] ws (parted e [] same), p .size))
       go (b ∷ after) same =
           let is : b .offset ≡ x = sym (ap (λ (z : Bucket). z .offset) (here b after same)) ∙ at in
           rw (ap (λ (z : Bucket). z .weight) (here b after same)) (
             fits e b after same,
-            ap (λ (z : List ℕ). set z (2 + 3 * j + 2) (b .weight + v)) (parted e (b ∷ after) same)
+            ap (λ (z : List ℕ). set z (slotStart j + 2) (b .weight + v)) (parted e (b ∷ after) same)
                 ∙ set-weight (s .n) f (p .before) after j (p .size) b (b .weight + v)
                 ∙ ap (encodeLevel (s .n))
                 (sym (ap (insert (s .n) 0 x v) (decoded e (b ∷ after) same)

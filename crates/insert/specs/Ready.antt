@@ -9,6 +9,7 @@ use native.Mathlib.Omega.{arith}
 use lib.Dec.{ltb}
 use lib.ListN.{length, getD, set, length-append}
 use lib.Pow.{pow-pos}
+use Rattle.shape.specs.Layout.{slotStart}
 use Rattle.model.specs.Level.{Bucket, Level, bucketOf, levelOf, evict, insert}
 use Rattle.model.specs.Words.{slot, decodeLevel, encodeLevel}
 use Rattle.laws.specs.Buckets.{halves}
@@ -83,12 +84,12 @@ module _ {n i x v j : ℕ} {ws : List ℕ} (r : Ready n i x v j ws) where
 
   -- the bucket takes v
   pub filled : (1 < slot ws j .width → slot ws j .weight + v < 2 ^ suc i)
-      → set ws (2 + 3 * j + 2) (slot ws j .weight + v) ≡ encodeLevel n (insert n i x v (decodeLevel ws))
+      → set ws (slotStart j + 2) (slot ws j .weight + v) ≡ encodeLevel n (insert n i x v (decodeLevel ws))
   filled room =
       let b = slot ws j in
       let level = levelOf (r .first) (r .before ++ b ∷ r .after) in
       let taken = upper-held n x (r .first) (r .kept) (r .before) (r .passed) b (r .covers .low) (r .covers .high) (r .after) few i (r .limits .low) v room in
-      ap (λ (z : List ℕ). set z (2 + 3 * j + 2) (b .weight + v)) (r .held) ∙ set-weight n (r .first) (r .before) (r .after) j (r .place) b (b .weight + v)
+      ap (λ (z : List ℕ). set z (slotStart j + 2) (b .weight + v)) (r .held) ∙ set-weight n (r .first) (r .before) (r .after) j (r .place) b (b .weight + v)
       ∙ ap (encodeLevel n) (sym (ap (insert n i x v) (ap decodeLevel (r .held) ∙ decode-encode n level) ∙ taken))
 
 -- ---- the bucket is split

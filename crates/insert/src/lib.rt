@@ -3,6 +3,8 @@ use buckets::gain;
 use buckets::put_at;
 use buckets::split_at;
 use scan::find;
+use shape::LEVEL_HEAD_LEN;
+use shape::SLOT_LEN;
 use shape::Shape;
 use words::long;
 use words::power;
@@ -10,6 +12,7 @@ use words::wide;
 ghost use mathlib.Core.Path.{_≡_};
 ghost use Prim.Native.Nat.{_+_, _*_, _≤_};
 ghost use lib.ListN.{length, getD};
+ghost use Rattle.shape.specs.Layout.{slotStart};
 ghost use Rattle.model.specs.Level.{insert};
 ghost use Rattle.model.specs.Words.{decodeLevel, encodeLevel};
 ghost use Rattle.laws.specs.Proper.{Open};
@@ -32,7 +35,7 @@ fn pour(level: &mut [u32], n: usize, i: u8, x: u32, v: u64, j: usize)
     requires { ⌜ Ready n i x v j (now level) ⌝ }
     ensures { λ _. ⌜ now (level .exit) ≡ encodeLevel n (insert n i x v (decodeLevel (now (level .entry)))) ⌝ }
 {
-    let at = 2 + 3 * j;
+    let at = LEVEL_HEAD_LEN + SLOT_LEN * j;
     let width = level[at + 1];
     let weight = long(level[at + 2]) + v;
     let full = 2 * long(power(i));
@@ -56,13 +59,13 @@ fn pour(level: &mut [u32], n: usize, i: u8, x: u32, v: u64, j: usize)
 
 // Whether slot j holds the bucket of offset x.
 fn is_at(level: &[u32], j: usize, x: u32) -> bool
-    requires { ⌜ (2 + 3 * getD (now level) 0 0 ≤ length (now level)) × (j ≤ getD (now level) 0 0) ⌝ }
+    requires { ⌜ (slotStart (getD (now level) 0 0) ≤ length (now level)) × (j ≤ getD (now level) 0 0) ⌝ }
     ensures { λ r. ⌜ At j x (now (level .entry)) r ⌝ }
 {
     if wide(level[0]) <= j {
         return false;
     }
-    level[2 + 3 * j] == x
+    level[LEVEL_HEAD_LEN + SLOT_LEN * j] == x
 }
 
 // Level 0: the bucket of offset x gains v, or one of weight v is made in its place.

@@ -9,7 +9,7 @@ use lib.Dec.{ltb, eqb}
 use lib.ListN.{length, drop}
 use borrow.Author.Tests.{lt-ltb, le-ltb}
 use Rattle.shape.specs.declared.Shape.{Shape}
-use Rattle.shape.specs.Layout.{bookWords}
+use Rattle.shape.specs.Layout.{headLen, bookWords}
 use Rattle.model.specs.declared.Call.{Call}
 use Rattle.model.specs.declared.Call.the-variants.{Make, Clock, Delivery, Query}
 use Rattle.model.specs.declared.Refusal.{Refusal}
@@ -52,7 +52,7 @@ pub record Due (ws : List ℕ) (s : Shape) (clock grade stamp volume : ℕ) : Ty
 
 module _ (v : View) (rest : List (Bool × ℕ)) where
   stops : (z : ℕ) → (z ≡ 0 → ⊥) → firstOf (opened v) ≡ z → firstOf (opened v ++ rest) ≡ z
-  stops z some = go (ltb (v .lent) 8) (not (v .headSound)) (not (eqb (v .lent) (bookWords (v .shape))))
+  stops z some = go (ltb (v .lent) headLen) (not (v .headSound)) (not (eqb (v .lent) (bookWords (v .shape))))
     where
       go : (a b c : Bool) → cond a 2 (cond b 7 (cond c 2 0)) ≡ z → cond a 2 (cond b 7 (cond c 2 (firstOf rest))) ≡ z
       go true b c h = h
@@ -61,7 +61,7 @@ module _ (v : View) (rest : List (Bool × ℕ)) where
       go false false false h = absurd (some (sym h))
 
   passes : firstOf (opened v) ≡ 0 → firstOf (opened v ++ rest) ≡ firstOf rest
-  passes = go (ltb (v .lent) 8) (not (v .headSound)) (not (eqb (v .lent) (bookWords (v .shape))))
+  passes = go (ltb (v .lent) headLen) (not (v .headSound)) (not (eqb (v .lent) (bookWords (v .shape))))
     where
       go : (a b c : Bool) → _≡_ {A = ℕ} (cond a 2 (cond b 7 (cond c 2 0))) 0 → cond a 2 (cond b 7 (cond c 2 (firstOf rest))) ≡ firstOf rest
       go true b c h = absurd (omega arith)
@@ -70,7 +70,7 @@ module _ (v : View) (rest : List (Bool × ℕ)) where
       go false false false h = refl
 
   starts : firstOf (opened v ++ rest) ≡ 0 → firstOf (opened v) ≡ 0
-  starts = go (ltb (v .lent) 8) (not (v .headSound)) (not (eqb (v .lent) (bookWords (v .shape))))
+  starts = go (ltb (v .lent) headLen) (not (v .headSound)) (not (eqb (v .lent) (bookWords (v .shape))))
     where
       go : (a b c : Bool) → cond a 2 (cond b 7 (cond c 2 (firstOf rest))) ≡ 0 → _≡_ {A = ℕ} (cond a 2 (cond b 7 (cond c 2 0))) 0
       go true b c h = h

@@ -12,7 +12,7 @@ use lib.ListN.{length, getD, take, drop, length-append, length-drop}
 use lib.Seq.{drop-append-add, length-take-le, take-add, take-all, drop-drop}
 use borrow.Author.Tests.{leb-true, le-leb}
 use Rattle.shape.specs.declared.Shape.{Shape}
-use Rattle.shape.specs.Layout.{levelWords, levelStart, blockWords}
+use Rattle.shape.specs.Layout.{totalStart, levelWords, levelStart, blockWords}
 use Rattle.shape.specs.LimitsLaws.{both}
 use Rattle.model.specs.Level.{Level}
 use Rattle.model.specs.Block.{Half, Block, upFrom}
@@ -93,7 +93,7 @@ levelsWords s h = join (map (encodeLevel (s .n)) (h .levels))
 
 -- words that have the half of this parity in its place
 pub record Placed (s : Shape) (parity : ℕ) (h : Half) (z : HalfSized s h) (ws : List ℕ) : Type 0 where
-  pub total : getD ws parity 0 ≡ h .total
+  pub total : getD ws (totalStart parity) 0 ≡ h .total
   pub parts : (i : ℕ) → i ≤ s .last → levelPart s parity i ws ≡ encodeLevel (s .n) (z .levelAt i)
 
 module _ (s : Shape) (h : Half) (z : HalfSized s h) where
@@ -224,17 +224,17 @@ module _ (s : Shape) (ws : List ℕ) where
     levelIn i = levelPart s parity i ws
 
     abbrev levelTest : ℕ → Bool
-    levelTest i = soundLevel s i (getD ws parity 0) (levelIn i)
+    levelTest i = soundLevel s i (getD ws (totalStart parity) 0) (levelIn i)
 
-    tests : (leb (getD ws parity 0) (2 ^ s .m) ≡ true) × (allFrom levelTest 0 (suc (s .last)) ≡ true)
+    tests : (leb (getD ws (totalStart parity) 0) (2 ^ s .m) ≡ true) × (allFrom levelTest 0 (suc (s .last)) ≡ true)
     unfolding soundHalf
     tests = both sound
 
     -- what the test of a half tells
-    pub soundHalf-total : getD ws parity 0 ≤ 2 ^ s .m
-    soundHalf-total = leb-true (getD ws parity 0) (2 ^ s .m) (tests .0)
+    pub soundHalf-total : getD ws (totalStart parity) 0 ≤ 2 ^ s .m
+    soundHalf-total = leb-true (getD ws (totalStart parity) 0) (2 ^ s .m) (tests .0)
 
-    pub soundHalf-level : (i : ℕ) → i ≤ s .last → soundLevel s i (getD ws parity 0) (levelPart s parity i ws) ≡ true
+    pub soundHalf-level : (i : ℕ) → i ≤ s .last → soundLevel s i (getD ws (totalStart parity) 0) (levelPart s parity i ws) ≡ true
     soundHalf-level i low = allFrom-elim levelTest 0 (suc (s .last)) (tests .1) i (omega arith) (omega arith)
 
     -- sound words stand for a sound half
@@ -245,7 +245,7 @@ module _ (s : Shape) (ws : List ℕ) where
           levelAt = λ i. decodeLevel (levelIn i);
           levels = refl;
           total = soundHalf-total;
-          sound = λ i low. soundLevel-decode s i (getD ws parity 0) (levelIn i) (soundHalf-level i low);
+          sound = λ i low. soundLevel-decode s i (getD ws (totalStart parity) 0) (levelIn i) (soundHalf-level i low);
         }
 
     -- and have it in place
@@ -254,7 +254,7 @@ module _ (s : Shape) (ws : List ℕ) where
     placed-decode p size =
         record {
           total = refl;
-          parts = λ i low. sym (encode-decode-sound s i (getD ws parity 0) (levelIn i) (soundHalf-level i low) (length-levelPart s parity i ws p low size));
+          parts = λ i low. sym (encode-decode-sound s i (getD ws (totalStart parity) 0) (levelIn i) (soundHalf-level i low) (length-levelPart s parity i ws p low size));
         }
 
   module _ (sound : soundBlock s ws ≡ true) where

@@ -14,7 +14,7 @@ use borrow.Author.Tests.{le-leb, leb-true, eqb-true}
 use Rattle.shape.specs.declared.Shape.{Shape}
 use Rattle.shape.specs.Limits.{shaped, between, within}
 use Rattle.shape.specs.LimitsLaws.{Limits, both, within-limits}
-use Rattle.shape.specs.Layout.{blockWords, blockStart, bookWords}
+use Rattle.shape.specs.Layout.{headLen, blockWords, blockStart, bookWords}
 use Rattle.model.specs.Block.{upFrom}
 use Rattle.model.specs.Words.{blockPart, shapeOf, clockOf, join, encodeHead, withBlock}
 use Rattle.model.specs.Sound.{maxClock, soundHead}
@@ -27,12 +27,12 @@ module _ (s : Shape) where
   -- a block ends where the next one starts, or before a later one
   pub blockStart-next : (i j : ℕ) → i < j → blockStart s i + blockWords s ≤ blockStart s j
   unfolding blockStart
-  blockStart-next = place-next 8 (blockWords s)
+  blockStart-next = place-next headLen (blockWords s)
 
   -- two blocks do not overlap
   pub blockStart-apart : (i j : ℕ) → i ≢ j → (blockStart s i + blockWords s ≤ blockStart s j) ⊎ (blockStart s j + blockWords s ≤ blockStart s i)
   unfolding blockStart
-  blockStart-apart = places-apart 8 (blockWords s)
+  blockStart-apart = places-apart headLen (blockWords s)
 
   -- the block of a grade lies within the book
   pub blockStart-fits : (grade : ℕ) → grade < s .g → blockStart s grade + blockWords s ≤ bookWords s
@@ -40,22 +40,22 @@ module _ (s : Shape) where
   blockStart-fits grade h = blockStart-next grade (s .g) h
 
   -- the head lies within the book
-  head-fits : 8 ≤ bookWords s
+  head-fits : headLen ≤ bookWords s
   unfolding bookWords
   head-fits = omega arith
 
   -- the head lies before every block
-  pub head-before : (grade : ℕ) → 8 ≤ blockStart s grade
+  pub head-before : (grade : ℕ) → headLen ≤ blockStart s grade
   unfolding blockStart
   head-before grade = omega arith
 
   -- words of a book's length are their first eight and their blocks
-  pub blocks-joined : (ws : List ℕ) → length ws ≡ bookWords s → take 8 ws ++ join (upFrom (λ j. blockPart s j ws) 0 (s .g)) ≡ ws
+  pub blocks-joined : (ws : List ℕ) → length ws ≡ bookWords s → take headLen ws ++ join (upFrom (λ j. blockPart s j ws) 0 (s .g)) ≡ ws
   unfolding bookWords blockStart
   blocks-joined ws size =
-      let start : 8 + 0 * blockWords s ≡ 8 = omega arith in
-      let all : length (drop 8 ws) ≤ s .g * blockWords s = simp length-drop (omega arith) in
-      rw (join-consecutive (blockWords s) 8 ws 0 (s .g), start, take-all (s .g * blockWords s) (drop 8 ws) all) (take-append-drop 8 ws)
+      let start : headLen + 0 * blockWords s ≡ headLen = omega arith in
+      let all : length (drop headLen ws) ≤ s .g * blockWords s = simp length-drop (omega arith) in
+      rw (join-consecutive (blockWords s) headLen ws 0 (s .g), start, take-all (s .g * blockWords s) (drop headLen ws) all) (take-append-drop headLen ws)
 
 -- ---- a book from its head and its blocks
 
@@ -95,7 +95,7 @@ module _ (s : Shape) (clock : ℕ) (f : ℕ → List ℕ) (sized : (j : ℕ) →
         let start : ℕ = grade * blockWords s in
         let blocks : List ℕ = join (upFrom f 0 (s .g)) in
         let head : List ℕ = encodeHead s clock in
-        rw (add-assoc 8 start (blockWords s), take-append-add head blocks start, drop-append-add head blocks (start + blockWords s))
+        rw (add-assoc headLen start (blockWords s), take-append-add head blocks start, drop-append-add head blocks (start + blockWords s))
         (ap (λ (z : List ℕ). head ++ z) (simp append-nil at (withPart-join f (blockWords s) [] 0 (s .g) blocks-sized grade grade (zero-add grade) h block)))
 
 -- ---- the head
@@ -133,11 +133,11 @@ module _ (ws : List ℕ) (sound : soundHead ws ≡ true) where
   soundHead-clock = leb-true (clockOf ws) maxClock (rest-tests .0)
 
   -- the first eight words are the head of their shape and clock
-  pub take-head : 8 ≤ length ws → take 8 ws ≡ encodeHead (shapeOf ws) (clockOf ws)
+  pub take-head : headLen ≤ length ws → take headLen ws ≡ encodeHead (shapeOf ws) (clockOf ws)
   take-head size =
       let five : (eqb (getD ws 5 0) 0 ≡ true) × ((eqb (getD ws 6 0) 0 && eqb (getD ws 7 0) 0) ≡ true) = both (rest-tests .1) in
       let six : (eqb (getD ws 6 0) 0 ≡ true) × (eqb (getD ws 7 0) 0 ≡ true) = both (five .1) in
-      take-upFrom ws 0 8 size
+      take-upFrom ws 0 headLen size
       ∙ rw (eqb-true (getD ws 5 0) 0 (five .0), eqb-true (getD ws 6 0) 0 (six .0), eqb-true (getD ws 7 0) 0 (six .1))
 
   -- words with a sound head are a book made of its blocks
@@ -171,8 +171,8 @@ module _ (s : Shape) (grade : ℕ) (h : grade < s .g) (ws : List ℕ) (size : le
         part-withPart (blockStart s grade) (blockWords s) block ws fits block-size (blockStart s other) (blockWords s) (blockStart-apart s other grade apart)
 
     -- and so is the head
-    pub head-withBlock : take 8 (withBlock s grade block ws) ≡ take 8 ws
-    head-withBlock = take-withPart (blockStart s grade) (blockWords s) block ws fits block-size 8 (head-before s grade)
+    pub head-withBlock : take headLen (withBlock s grade block ws) ≡ take headLen ws
+    head-withBlock = take-withPart (blockStart s grade) (blockWords s) block ws fits block-size headLen (head-before s grade)
 
     -- and every word below or above
     pub getD-withBlock-below : (i d : ℕ) → i < blockStart s grade → getD (withBlock s grade block ws) i d ≡ getD ws i d

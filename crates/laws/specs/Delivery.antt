@@ -8,7 +8,7 @@ use native.Mathlib.Omega.{arith}
 use lib.ListN.{length, getD, set}
 use lib.Pow.{pow-pos}
 use Rattle.shape.specs.declared.Shape.{Shape}
-use Rattle.shape.specs.Layout.{levelWords, blockWords}
+use Rattle.shape.specs.Layout.{totalStart, levelWords, blockWords}
 use Rattle.model.specs.Level.{Level, insert}
 use Rattle.model.specs.Block.{Half, interval, offsetOf, withHalf, deliverHalf, deliver}
 use Rattle.model.specs.Words.{levelPart, decodeLevel, decodeHalf, decodeBlock, encodeLevel, encodeBlock}
@@ -32,12 +32,12 @@ module _ (s : Shape) (stamp v : ℕ) (ws : List ℕ) where
 
   -- the words with the total raised and the levels below c inserted into
   abbrev pub delivering : ℕ → List ℕ
-  delivering c = withLevels s parity wordsAfter c (set ws parity (getD ws parity 0 + v))
+  delivering c = withLevels s parity wordsAfter c (set ws parity (getD ws (totalStart parity) 0 + v))
 
   -- words that hold the delivery
   pub record Delivered (new : List ℕ) : Type 0 where
     pub size : length new ≡ blockWords s
-    pub total : getD new parity 0 ≡ getD ws parity 0 + v
+    pub total : getD new parity 0 ≡ getD ws (totalStart parity) 0 + v
     pub parts : (i : ℕ) → i ≤ s .last → levelPart s parity i new ≡ wordsAfter i
     pub other : Same s (1 - parity) ws new
 
@@ -50,7 +50,7 @@ module _ (s : Shape) (stamp v : ℕ) (ws : List ℕ) where
 
     few-after : (i : ℕ) → i ≤ s .last → length (levelAfter i .buckets) ≤ s .n
     few-after i low =
-        insert-sound (s .k) (s .n) i (w .proper .limits .low-n) (getD ws parity 0) (offsetOf s stamp) v (decodeLevel (levelPart s parity i ws)) inside
+        insert-sound (s .k) (s .n) i (w .proper .limits .low-n) (getD ws (totalStart parity) 0) (offsetOf s stamp) v (decodeLevel (levelPart s parity i ws)) inside
         (whole-level s ws w parity half i low) .few
 
     abbrev halfAfter : Half
@@ -78,17 +78,17 @@ module _ (s : Shape) (stamp v : ℕ) (ws : List ℕ) where
     after-words i low = length-encode (s .n) (levelAfter i) (few-after i low)
 
     pub length-delivering : (c : ℕ) → c ≤ suc (s .last) → length (delivering c) ≡ blockWords s
-    length-delivering = length-written s parity half wordsAfter after-words ws (w .size) (getD ws parity 0 + v)
+    length-delivering = length-written s parity half wordsAfter after-words ws (w .size) (getD ws (totalStart parity) 0 + v)
 
     -- the level that comes next is as it was
     pub levelPart-delivering : (i : ℕ) → i ≤ s .last → levelPart s parity i (delivering i) ≡ levelPart s parity i ws
     levelPart-delivering i low =
-        levelPart-written-above s parity half wordsAfter after-words ws (w .size) (getD ws parity 0 + v) i (omega arith) i (omega arith)
+        levelPart-written-above s parity half wordsAfter after-words ws (w .size) (getD ws (totalStart parity) 0 + v) i (omega arith) i (omega arith)
 
     -- and can take the delivery where the half can
-    pub level-open : 0 < v → getD ws parity 0 + v ≤ 2 ^ s .m → (i : ℕ) → i ≤ s .last → Open s i (offsetOf s stamp) v (levelPart s parity i ws)
+    pub level-open : 0 < v → getD ws (totalStart parity) 0 + v ≤ 2 ^ s .m → (i : ℕ) → i ≤ s .last → Open s i (offsetOf s stamp) v (levelPart s parity i ws)
     level-open some room i low = record {
-      total = getD ws parity 0;
+      total = getD ws (totalStart parity) 0;
       proper = w .proper;
       index = low;
       size = length-levelPart s parity i ws half low (w .size);
@@ -102,7 +102,7 @@ module _ (s : Shape) (stamp v : ℕ) (ws : List ℕ) where
     pub delivering-all : delivering (suc (s .last)) ≡ encodeBlock s (deliver s stamp v (decodeBlock s ws))
     unfolding deliverHalf decodeHalf after-sized
     delivering-all =
-        let total : ℕ = getD ws parity 0 + v in
+        let total : ℕ = getD ws (totalStart parity) 0 + v in
         let placed = placed-written s parity half wordsAfter after-words ws (w .size) total halfAfter after-sized refl (λ i low. refl) in
         delivered-block (delivering (suc (s .last))) (record {
           size = length-delivering (suc (s .last)) (omega arith);

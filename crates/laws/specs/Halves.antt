@@ -9,7 +9,7 @@ use lib.ListN.{length, getD, set, length-set}
 use lib.Seq.{getD-set-same, getD-set-other}
 use borrow.Author.Tests.{ne-eqb}
 use Rattle.shape.specs.declared.Shape.{Shape}
-use Rattle.shape.specs.Layout.{levelWords, blockWords}
+use Rattle.shape.specs.Layout.{totalStart, levelWords, blockWords}
 use Rattle.model.specs.Level.{emptyLevel}
 use Rattle.model.specs.Block.{Half, Block, interval, halfOf, withHalf, emptyHalf, advance}
 use Rattle.model.specs.BlockLaws.{empties-same, empties-next, empties-other}
@@ -56,11 +56,11 @@ module _ (s : Shape) (ws : List ℕ) (w : Whole s ws) (parity : ℕ) (p : parity
       go (suc zero) h = soundBlock-halves s ws (w .sound) .1
       go (suc (suc r)) h = absurd (omega arith)
 
-  pub whole-total : getD ws parity 0 ≤ 2 ^ s .m
+  pub whole-total : getD ws (totalStart parity) 0 ≤ 2 ^ s .m
   whole-total = soundHalf-total s ws parity whole-half
 
-  pub whole-level : (i : ℕ) → i ≤ s .last → SoundLevel (s .k) (s .n) i (getD ws parity 0) (decodeLevel (levelPart s parity i ws))
-  whole-level i low = words-tests s i (getD ws parity 0) (levelPart s parity i ws) .0 (soundHalf-level s ws parity whole-half i low) .1
+  pub whole-level : (i : ℕ) → i ≤ s .last → SoundLevel (s .k) (s .n) i (getD ws (totalStart parity) 0) (decodeLevel (levelPart s parity i ws))
+  whole-level i low = words-tests s i (getD ws (totalStart parity) 0) (levelPart s parity i ws) .0 (soundHalf-level s ws parity whole-half i low) .1
 
 -- ---- levels of one half, written from level 0 on
 
@@ -71,7 +71,7 @@ withLevels s parity f (suc c) ws = withLevel s parity c (f c) (withLevels s pari
 
 -- a half of these words is as it was in those
 pub record Same (s : Shape) (parity : ℕ) (ws new : List ℕ) : Type 0 where
-  pub total : getD new parity 0 ≡ getD ws parity 0
+  pub total : getD new parity 0 ≡ getD ws (totalStart parity) 0
   pub parts : (i : ℕ) → i ≤ s .last → levelPart s parity i new ≡ levelPart s parity i ws
 
 -- levels of different halves are different

@@ -9,7 +9,7 @@ use lib.ListN.{length}
 use borrow.Author.Tests.{eq-eqb, ne-eqb, not-false, ltb-true, ltb-false, eqb-true}
 use Rattle.shape.specs.declared.Shape.{Shape}
 use Rattle.shape.specs.Limits.{refused, within, shaped}
-use Rattle.shape.specs.Layout.{bookWords}
+use Rattle.shape.specs.Layout.{headLen, bookWords}
 use Rattle.model.specs.declared.Call.{Call}
 use Rattle.model.specs.declared.Call.the-variants.{Make, Clock, Delivery, Query}
 use Rattle.model.specs.declared.Refusal.{Refusal}
@@ -95,10 +95,10 @@ enter-number lent l call = settle-number (refusals (ledgerView lent l) call) l (
 
 -- clock, delivery and question begin alike
 opened-facts : (v : View) {y z : ℕ} → (2 ≡ z → ⊥) → (7 ≡ z → ⊥)
-    → cond (ltb (v .lent) 8) 2 (cond (not (v .headSound)) 7 (cond (not (eqb (v .lent) (bookWords (v .shape)))) 2 y)) ≡ z
+    → cond (ltb (v .lent) headLen) 2 (cond (not (v .headSound)) 7 (cond (not (eqb (v .lent) (bookWords (v .shape)))) 2 y)) ≡ z
     → (v .headSound ≡ true) × (v .lent ≡ bookWords (v .shape)) × (y ≡ z)
 opened-facts v two seven h =
-    let long = further (ltb (v .lent) 8) 2 two h in
+    let long = further (ltb (v .lent) headLen) 2 two h in
     let head = further (not (v .headSound)) 7 seven (long .1) in
     let size = further (not (eqb (v .lent) (bookWords (v .shape)))) 2 two (head .1) in
     (not-false _ (head .0), eqb-true (v .lent) (bookWords (v .shape)) (not-false _ (size .0)), size .1)

@@ -9,6 +9,7 @@ use native.Mathlib.Omega.{arith}
 use borrow.Author.Tests.{lt-ltb, le-ltb, ne-eqb}
 use lib.Dec.{ltb, eqb}
 use lib.ListN.{length, getD, set, replicate, length-append}
+use Rattle.shape.specs.Layout.{levelHeadLen, slotLen, slotStart}
 use Rattle.model.specs.Level.{Bucket, Level, levelOf, firstAfter, evict, insert}
 use Rattle.model.specs.Words.{encodeLevel}
 use Rattle.model.specs.Claim.{Each}
@@ -36,7 +37,7 @@ word-blank (suc c) (suc i) = word-blank c i
 
 pub getD-head : (n f : ℕ) (bs : List Bucket) → getD (encodeLevel n (levelOf f bs)) 2 0 ≡ headOffset bs
 unfolding encodeLevel
-getD-head n f [] = word-blank (3 * (n - 0)) 0
+getD-head n f [] = word-blank (slotLen * (n - 0)) 0
 getD-head n f (b ∷ bs) = refl
 
 -- F once bucket b is given up, by the word of the next one
@@ -53,12 +54,12 @@ count-parts n f before after ws held = ap (λ (z : List ℕ). getD z 0 0) held �
 module _ (n i f : ℕ) (b : Bucket) (after : List Bucket) where
   -- there is room: the slots from j on move one up
   pub put-room : (before : List Bucket) (j count : ℕ) → length before ≡ j → count ≡ length before + length after → count < n
-      → set (putSlot (raise (encodeLevel n (levelOf f (before ++ after))) (2 + 3 * j) (3 * (count - j))) (2 + 3 * j) b) 0 (count + 1)
+      → set (putSlot (raise (encodeLevel n (levelOf f (before ++ after))) (slotStart j) (slotLen * (count - j))) (slotStart j) b) 0 (count + 1)
       ≡ encodeLevel n (evict n i f (before ++ b ∷ after))
   put-room before j count place all room =
       let few : length (before ++ b ∷ after) ≤ n = simp length-append (omega arith) in
       rw (evict-none n i f (before ++ b ∷ after) few)
-      (insert-encode n f before after j place b (3 * (count - j)) (count + 1) (omega arith) (omega arith) (omega arith))
+      (insert-encode n f before after j place b (slotLen * (count - j)) (count + 1) (omega arith) (omega arith) (omega arith))
 
   -- there is none, and the bucket would be the lowest: only F changes
   pub put-lowest : length after ≡ n → (0 < i → 0 < length after)
@@ -67,7 +68,7 @@ module _ (n i f : ℕ) (b : Bucket) (after : List Bucket) where
 
   -- there is none: the lowest goes, and the slots up to the bucket's move one down
   pub put-shift : (lowest : Bucket) (before : List Bucket) (j : ℕ) → length before ≡ j → suc (length before + length after) ≡ n
-      → set (putSlot (lower (encodeLevel n (levelOf f (lowest ∷ (before ++ after)))) 2 (3 * j)) (2 + 3 * j) b) 1
+      → set (putSlot (lower (encodeLevel n (levelOf f (lowest ∷ (before ++ after)))) levelHeadLen (slotLen * j)) (slotStart j) b) 1
       (cond (eqb i 0) (lowest .offset + 1) (headOffset (before ++ b ∷ after)))
       ≡ encodeLevel n (evict n i f (lowest ∷ (before ++ b ∷ after)))
   put-shift lowest before j place full =

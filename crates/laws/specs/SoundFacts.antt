@@ -9,6 +9,7 @@ use native.Mathlib.Omega.{arith}
 use lib.Dec.{leb, ltb, eqb}
 use lib.ListN.{length, getD, drop}
 use Rattle.shape.specs.declared.Shape.{Shape}
+use Rattle.shape.specs.Layout.{slotStart}
 use Rattle.model.specs.Level.{Bucket, Level}
 use Rattle.model.specs.Words.{slots, decodeLevel}
 use Rattle.model.specs.Sound.{implies, zeros, weightOf, isPower, rising, soundBucket, chained, soundBuckets, soundLevel}
@@ -135,11 +136,11 @@ slots-length ws j (suc c) = ap suc (slots-length ws (j + 1) c)
 
 -- sound words are those that have zeros in the unused places and stand for a sound level
 pub words-tests : (s : Shape) (i total : ℕ) (ws : List ℕ)
-    → Tests (soundLevel s i total ws) ((zeros (drop (2 + 3 * getD ws 0 0) ws) ≡ true) × SoundLevel (s .k) (s .n) i total (decodeLevel ws))
+    → Tests (soundLevel s i total ws) ((zeros (drop (slotStart (getD ws 0 0)) ws) ≡ true) × SoundLevel (s .k) (s .n) i total (decodeLevel ws))
 unfolding soundLevel decodeLevel
 words-tests s i total ws =
     let l = decodeLevel ws in
     let count = getD ws 0 0 in
-    and-between (leb count (s .n)) (zeros (drop (2 + 3 * count) ws)) (restTests (s .k) (s .n) i total count l)
+    and-between (leb count (s .n)) (zeros (drop (slotStart count) ws)) (restTests (s .k) (s .n) i total count l)
     (subst (λ (c : ℕ). Tests (leb c (s .n) && restTests (s .k) (s .n) i total c l) (SoundLevel (s .k) (s .n) i total l))
     (slots-length ws 0 count) (sound-tests (s .k) (s .n) i total l))

@@ -8,17 +8,17 @@ use native.Mathlib.Omega.{arith}
 use lib.ListN.{length, take, drop, length-append, length-drop, take-append-drop, drop-of-length-le}
 use lib.Seq.{take-at, drop-at, drop-append-add, drop-drop, length-take-le}
 use Rattle.shape.specs.declared.Shape.{Shape}
-use Rattle.shape.specs.Layout.{blockWords, blockStart, bookWords}
+use Rattle.shape.specs.Layout.{headLen, blockWords, blockStart, bookWords}
 use Rattle.model.specs.Block.{upFrom}
 use Rattle.model.specs.Words.{join, blockPart, withBlock}
 use Rattle.laws.specs.Parts.{length-join, upFrom-append, join-append}
 
 -- the first c blocks are f's, the head and the other blocks as they were
 unfoldable pub swept : Shape → (ℕ → List ℕ) → ℕ → List ℕ → List ℕ
-swept s f c ws = (take 8 ws ++ join (upFrom f 0 c)) ++ drop (blockStart s c) ws
+swept s f c ws = (take headLen ws ++ join (upFrom f 0 c)) ++ drop (blockStart s c) ws
 
 module _ (s : Shape) (f : ℕ → List ℕ) (ws : List ℕ) (size : length ws ≡ bookWords s) (sized : (j : ℕ) → j < s .g → length (f j) ≡ blockWords s) where
-  start-none : blockStart s 0 ≡ 8
+  start-none : blockStart s 0 ≡ headLen
   unfolding blockStart
   start-none = omega arith
 
@@ -30,22 +30,22 @@ module _ (s : Shape) (f : ℕ → List ℕ) (ws : List ℕ) (size : length ws �
   unfolding blockStart bookWords
   start-last = sym size
 
-  long : 8 ≤ length ws
+  long : headLen ≤ length ws
   unfolding bookWords
   long = omega arith
 
   pub swept-none : swept s f 0 ws ≡ ws
   unfolding swept
-  swept-none = rw (start-none, append-nil) (take-append-drop 8 ws)
+  swept-none = rw (start-none, append-nil (take headLen ws)) (take-append-drop headLen ws)
 
   module _ (c : ℕ) (low : c ≤ s .g) where
     abbrev done : List ℕ
-    done = take 8 ws ++ join (upFrom f 0 c)
+    done = take headLen ws ++ join (upFrom f 0 c)
 
     length-done : length done ≡ blockStart s c
     unfolding blockStart
     length-done =
-        simp length-append (omega (arith, length-take-le 8 ws long, length-join f (blockWords s) 0 c (λ j l h. sized j (omega arith))))
+        simp length-append (omega (arith, length-take-le headLen ws long, length-join f (blockWords s) 0 c (λ j l h. sized j (omega arith))))
 
     start-fits : blockStart s c ≤ length ws
     unfolding blockStart bookWords
@@ -72,8 +72,10 @@ module _ (s : Shape) (f : ℕ → List ℕ) (ws : List ℕ) (size : length ws �
       ∙ join-append (upFrom f 0 c) (f c ∷ []) ∙ ap (λ (z : List ℕ). join (upFrom f 0 c) ++ z) (append-nil (f c)) in
       let rest : drop (start + blockWords s) (front ++ drop start ws) ≡ drop (blockStart s (suc c)) ws =
       rw (← size-front, drop-append-add front (drop (length front) ws) (blockWords s), drop-drop, size-front, start-next c) in
-      rw (take-at front (drop start ws) start size-front, rest, parts) (simp append-assoc)
+      rw (take-at front (drop start ws) start size-front, rest, parts)
+      (sym (append-assoc front (f c) (drop (blockStart s (suc c)) ws))
+      ∙ ap (λ (z : List ℕ). z ++ drop (blockStart s (suc c)) ws) (append-assoc (take headLen ws) (join (upFrom f 0 c)) (f c)))
 
-  pub swept-all : swept s f (s .g) ws ≡ take 8 ws ++ join (upFrom f 0 (s .g))
+  pub swept-all : swept s f (s .g) ws ≡ take headLen ws ++ join (upFrom f 0 (s .g))
   unfolding swept
   swept-all = rw (drop-of-length-le ws {i = blockStart s (s .g)} (omega (arith, start-last))) (append-nil _)

@@ -5,7 +5,7 @@ use Prim.Native.Nat.{ℕ, _+_, _^_}
 use lib.Dec.{ltb, eqb}
 use lib.ListN.{length, replicate}
 use Rattle.shape.specs.declared.Shape.{Shape}
-use Rattle.shape.specs.Layout.{bookWords}
+use Rattle.shape.specs.Layout.{headLen, bookWords}
 use Rattle.shape.specs.Limits.{Reply, refused, accepted, within, shaped}
 use Rattle.model.specs.declared.Call.{Call}
 use Rattle.model.specs.declared.Call.the-variants.{Make, Clock, Delivery, Query}
@@ -36,7 +36,7 @@ pub record View : Type 0 where  -- what the refusals look at: the book gives it 
   pub total : ℕ → ℕ → ℕ  -- of a grade's half, by a stamp of its interval
 
 abbrev pub opened : View → List (Bool × ℕ)  -- how the refusals of clock, delivery and question begin
-opened v = (ltb (v .lent) 8, 2) ∷ (not (v .headSound), 7) ∷ (not (eqb (v .lent) (bookWords (v .shape))), 2) ∷ []
+opened v = (ltb (v .lent) headLen, 2) ∷ (not (v .headSound), 7) ∷ (not (eqb (v .lent) (bookWords (v .shape))), 2) ∷ []
 
 unfoldable pub refusals : View → Call → List (Bool × ℕ)  -- the refusals of each call in their order
 refusals v (Make k n m g) = (not (within k n m g), 1) ∷ (not (eqb (v .lent) (bookWords (shaped k n m g))), 2) ∷ []

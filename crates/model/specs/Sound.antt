@@ -6,7 +6,7 @@ use lib.Dec.{leb, ltb, eqb}
 use lib.ListN.{length, getD, drop}
 use Rattle.shape.specs.declared.Shape.{Shape}
 use Rattle.shape.specs.Limits.{within}
-use Rattle.shape.specs.Layout.{slotStart}
+use Rattle.shape.specs.Layout.{totalStart, slotStart}
 use Rattle.model.specs.Level.{Bucket}
 use Rattle.model.specs.Words.{slots, levelPart, clockOf}
 
@@ -56,7 +56,7 @@ soundLevel s i total ws =
     && (implies (ltb 0 first) (eqb count (s .n)) && soundBuckets (s .k) i first bs))))
 
 unfoldable pub soundHalf : Shape → ℕ → List ℕ → Bool
-soundHalf s parity ws = leb (getD ws parity 0) (2 ^ s .m) && allFrom (λ i. soundLevel s i (getD ws parity 0) (levelPart s parity i ws)) 0 (suc (s .last))
+soundHalf s parity ws = leb (getD ws (totalStart parity) 0) (2 ^ s .m) && allFrom (λ i. soundLevel s i (getD ws (totalStart parity) 0) (levelPart s parity i ws)) 0 (suc (s .last))
 
 unfoldable pub soundBlock : Shape → List ℕ → Bool
 soundBlock s ws = soundHalf s 0 ws && soundHalf s 1 ws

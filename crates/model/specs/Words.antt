@@ -4,7 +4,7 @@ use Prim.Native.Nat.{ℕ, zero, suc, _+_, _-_, _*_}
 use lib.ListN.{length, getD, take, drop, replicate}
 use Rattle.shape.specs.declared.Shape.{Shape}
 use Rattle.shape.specs.Limits.{shaped}
-use Rattle.shape.specs.Layout.{slotStart, levelWords, levelStart, blockWords, blockStart}
+use Rattle.shape.specs.Layout.{totalStart, slotLen, slotStart, levelWords, levelStart, blockWords, blockStart}
 use Rattle.model.specs.Level.{Bucket, Level, bucketOf, levelOf}
 use Rattle.model.specs.Block.{Half, Block, upFrom}
 
@@ -22,7 +22,7 @@ abbrev pub levelPart : Shape → ℕ → ℕ → List ℕ → List ℕ  -- the w
 levelPart s parity i ws = take (levelWords s) (drop (levelStart s parity i) ws)
 
 unfoldable pub decodeHalf : Shape → ℕ → List ℕ → Half
-decodeHalf s parity ws = record { total = getD ws parity 0; levels = upFrom (λ i. decodeLevel (levelPart s parity i ws)) 0 (suc (s .last)) }
+decodeHalf s parity ws = record { total = getD ws (totalStart parity) 0; levels = upFrom (λ i. decodeLevel (levelPart s parity i ws)) 0 (suc (s .last)) }
 
 unfoldable pub decodeBlock : Shape → List ℕ → Block
 decodeBlock s ws = record { even = decodeHalf s 0 ws; odd = decodeHalf s 1 ws }
@@ -44,7 +44,7 @@ abbrev pub slotWords : Bucket → List ℕ
 slotWords b = b .offset ∷ b .width ∷ b .weight ∷ []
 
 unfoldable pub encodeLevel : ℕ → Level → List ℕ  -- unused slots are zero
-encodeLevel n l = length (l .buckets) ∷ l .first ∷ (join (map slotWords (l .buckets)) ++ replicate (3 * (n - length (l .buckets))) 0)
+encodeLevel n l = length (l .buckets) ∷ l .first ∷ (join (map slotWords (l .buckets)) ++ replicate (slotLen * (n - length (l .buckets))) 0)
 
 unfoldable pub encodeBlock : Shape → Block → List ℕ  -- a block is the two totals, the even half's levels, then the odd half's
 encodeBlock s b = let levels : Half → List ℕ = λ h. join (map (encodeLevel (s .n)) (h .levels)) in b .even .total ∷ b .odd .total ∷ (levels (b .even) ++ levels (b .odd))

@@ -8,6 +8,7 @@ ghost use mathlib.Core.Bool.{cond};
 ghost use Prim.Native.Nat.{_+_, _*_, _^_, _<_, _≤_};
 ghost use lib.Dec.{leb};
 ghost use lib.ListN.{length, getD};
+ghost use Rattle.shape.specs.Layout.{slotStart};
 ghost use Rattle.model.specs.Words.{decodeLevel};
 ghost use Rattle.model.specs.Block.{sumFrom};
 ghost use Rattle.laws.specs.Place.{place, EndsRise};
@@ -22,7 +23,7 @@ fn end(b: Slot) -> u64
 
 // Whether there is a slot `step` below `high`, and it ends past offset x.
 fn is_past(level: &[u32], high: usize, step: usize, x: u32) -> bool
-    requires { ⌜ (0 < step) × (2 + 3 * high ≤ length (now level)) ⌝ }
+    requires { ⌜ (0 < step) × (slotStart high ≤ length (now level)) ⌝ }
     ensures { λ r. ⌜ r ≡ isPast (now (level .entry)) high step x ⌝ }
 {
     if high < step {
@@ -39,7 +40,7 @@ struct Span {
 
 // A span for offset x, looked for from the upper end in steps that double: most offsets are near it.
 fn gallop(level: &[u32], x: u32) -> Span
-    requires { ⌜ EndsRise 0 (decodeLevel (now level) .buckets) × (2 + 3 * getD (now level) 0 0 ≤ length (now level)) ⌝ }
+    requires { ⌜ EndsRise 0 (decodeLevel (now level) .buckets) × (slotStart (getD (now level) 0 0) ≤ length (now level)) ⌝ }
     ensures { λ r. ⌜ Spans x (now (level .entry)) r ⌝ }
 {
     let mut high = wide(level[0]);
@@ -60,7 +61,7 @@ fn gallop(level: &[u32], x: u32) -> Span
 // How many leading buckets end at or before offset x: the slot of the first that ends past it, or the count. The span is halved until
 // one place is left.
 pub fn find(level: &[u32], x: u32) -> usize
-    requires { ⌜ (2 + 3 * getD (now level) 0 0 ≤ length (now level)) × EndsRise 0 (decodeLevel (now level) .buckets) ⌝ }
+    requires { ⌜ (slotStart (getD (now level) 0 0) ≤ length (now level)) × EndsRise 0 (decodeLevel (now level) .buckets) ⌝ }
     ensures { λ r. ⌜ r ≡ place x (decodeLevel (now (level .entry)) .buckets) ⌝ }
 {
     let span = gallop(level, x);
@@ -86,7 +87,7 @@ fn counted(b: Slot, a: u32) -> u64
 
 // The weights of the buckets whose offset is at least a.
 pub fn sum_from(level: &[u32], a: u32) -> u64
-    requires { ⌜ (2 + 3 * getD (now level) 0 0 ≤ length (now level)) × (getD (now level) 0 0 ≤ 1024) ⌝ }
+    requires { ⌜ (slotStart (getD (now level) 0 0) ≤ length (now level)) × (getD (now level) 0 0 ≤ 1024) ⌝ }
     ensures { λ r. ⌜ r ≡ sumFrom a (decodeLevel (now (level .entry)) .buckets) ⌝ }
 {
     let count = wide(level[0]);

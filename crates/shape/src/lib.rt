@@ -3,6 +3,18 @@ ghost use mathlib.Core.Path.{_≡_};
 ghost use Rattle.shape.specs.Layout.{bookWords, blockWords, blockStart, levelWords, levelStart};
 ghost use Rattle.shape.specs.Limits.{between, replyOf, checked};
 
+// The words of the book's head.
+pub const HEAD_LEN: usize = 8;
+
+// The words of a block before its levels: the totals of its two halves.
+pub const BLOCK_HEAD_LEN: usize = 2;
+
+// The words of a level before its slots: its count and its first kept offset.
+pub const LEVEL_HEAD_LEN: usize = 2;
+
+// The words of a slot.
+pub const SLOT_LEN: usize = 3;
+
 // Document 01's shape. Only what `Shape::new` gives is held to the limits, and only that has document 01's lengths; every method is
 // defined on any fields.
 pub struct Shape {
@@ -79,34 +91,35 @@ impl Shape {
     pub fn level_len(self) -> usize
         ensures { λ r. ⌜ r ≡ levelWords self ⌝ }
     {
-        2 + 3 * (self.n as usize)
+        LEVEL_HEAD_LEN + SLOT_LEN * (self.n as usize)
     }
 
     // The words of one grade's block.
     pub fn block_len(self) -> usize
         ensures { λ r. ⌜ r ≡ blockWords self ⌝ }
     {
-        2 + 2 * (self.last as usize + 1) * self.level_len()
+        BLOCK_HEAD_LEN + 2 * (self.last as usize + 1) * self.level_len()
     }
 
     // The words of the whole book.
     pub fn book_len(self) -> usize
         ensures { λ r. ⌜ r ≡ bookWords self ⌝ }
     {
-        8 + (self.g as usize) * self.block_len()
+        HEAD_LEN + (self.g as usize) * self.block_len()
     }
 
     // Where a grade's block starts in the book.
     pub fn block_start(self, grade: u32) -> usize
         ensures { λ r. ⌜ r ≡ blockStart self grade ⌝ }
     {
-        8 + (grade as usize) * self.block_len()
+        HEAD_LEN + (grade as usize) * self.block_len()
     }
 
     // Where a level of the half of a parity starts in the block.
     pub fn level_start(self, parity: u8, level: u8) -> usize
         ensures { λ r. ⌜ r ≡ levelStart self parity level ⌝ }
     {
-        2 + ((parity as usize) * (self.last as usize + 1) + (level as usize)) * self.level_len()
+        BLOCK_HEAD_LEN
+            + ((parity as usize) * (self.last as usize + 1) + (level as usize)) * self.level_len()
     }
 }

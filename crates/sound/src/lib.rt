@@ -1,5 +1,7 @@
 // Whether the words of one level are sound.
 use quick::sound_buckets;
+use shape::LEVEL_HEAD_LEN;
+use shape::SLOT_LEN;
 use shape::Shape;
 use words::both;
 use words::implied;
@@ -73,7 +75,7 @@ pub fn sound_level(level: &[u32], s: Shape, i: u8, total: u64) -> bool
     if n < count {
         return false;
     }
-    let unused = is_zero(level, 2 + 3 * count);
+    let unused = is_zero(level, LEVEL_HEAD_LEN + SLOT_LEN * count);
     let right = sound_buckets(level, count, s.k, i, total);
     both(unused, both(right, implied(0 < first, count == n)))
 }

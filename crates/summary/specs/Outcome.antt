@@ -10,7 +10,7 @@ use lib.Seq.{drop-append-add, drop-drop}
 use borrow.Author.Tests.{eq-eqb, ne-eqb}
 use Rattle.shape.specs.declared.Shape.{Shape}
 use Rattle.shape.specs.Limits.{refused, accepted, within, shaped}
-use Rattle.shape.specs.Layout.{bookWords, blockWords, blockStart}
+use Rattle.shape.specs.Layout.{headLen, bookWords, blockWords, blockStart}
 use Rattle.model.specs.declared.Call.{Call}
 use Rattle.model.specs.declared.Call.the-variants.{Make, Clock, Delivery, Query}
 use Rattle.model.specs.declared.Refusal.{Refusal}
@@ -64,23 +64,23 @@ module _ (ws : List ℕ) (k n m g : ℕ) where
 module _ (s : Shape) (clock : ℕ) (ws : List ℕ) where
   -- the words with another head
   abbrev pub headed : List ℕ
-  headed = encodeHead s clock ++ drop 8 ws
+  headed = encodeHead s clock ++ drop headLen ws
 
-  pub length-headed : 8 ≤ length ws → length headed ≡ length ws
+  pub length-headed : headLen ≤ length ws → length headed ≡ length ws
   length-headed h = simp length-drop (omega arith)
 
   -- the blocks stay
   pub blockPart-headed : (grade : ℕ) → blockPart s grade headed ≡ blockPart s grade ws
   unfolding blockStart
   blockPart-headed grade =
-      ap (take (blockWords s)) (drop-append-add (encodeHead s clock) (drop 8 ws) (grade * blockWords s) ∙ drop-drop (grade * blockWords s) 8 ws)
+      ap (take (blockWords s)) (drop-append-add (encodeHead s clock) (drop headLen ws) (grade * blockWords s) ∙ drop-drop (grade * blockWords s) headLen ws)
 
-pub book-long : (s : Shape) (ws : List ℕ) → length ws ≡ bookWords s → 8 ≤ length ws
+pub book-long : (s : Shape) (ws : List ℕ) → length ws ≡ bookWords s → headLen ≤ length ws
 unfolding bookWords
 book-long s ws h = omega arith
 
 -- an accepted make's words
-pub made-swept : (s : Shape) (ws : List ℕ) → take 8 (headed s 0 ws) ++ join (upFrom (emptied s) 0 (s .g)) ≡ made s
+pub made-swept : (s : Shape) (ws : List ℕ) → take headLen (headed s 0 ws) ++ join (upFrom (emptied s) 0 (s .g)) ≡ made s
 unfolding made
 made-swept s ws = ap (λ (z : List (List ℕ)). encodeHead s 0 ++ join z) (sym (replicate-upFrom (emptied s 0) 0 (s .g)))
 
@@ -115,7 +115,7 @@ module _ (ws : List ℕ) (s : Shape) (clock to : ℕ) (o : Open ws s clock) (h :
       ∙ ap (λ (z : Shape). encodeBlock s (advance s (clockOf ws) to (decodeBlock z (blockPart z grade ws)))) (o .same))
 
   -- an accepted clock's words
-  pub clocked-swept : take 8 (headed s to ws) ++ join (upFrom (advanced s clock to (headed s to ws)) 0 (s .g)) ≡ clocked (shapeOf ws) to ws
+  pub clocked-swept : take headLen (headed s to ws) ++ join (upFrom (advanced s clock to (headed s to ws)) 0 (s .g)) ≡ clocked (shapeOf ws) to ws
   unfolding clocked
   clocked-swept =
       ap (λ (z : List (List ℕ)). encodeHead s to ++ join z)
@@ -182,7 +182,7 @@ module _ (s : Shape) (p : Proper s) (ws : List ℕ) where
       (make-misfit ws (s .k) (s .n) (s .m) (s .g) inside (λ e. h (e ∙ ap bookWords (shaped-proper s p))))
 
   pub made-outcome : length ws ≡ bookWords s
-      → outcomeOf (replyOf Done) (take 8 (headed s 0 ws) ++ join (upFrom (emptied s) 0 (s .g))) ≡ perform ws (Make (s .k) (s .n) (s .m) (s .g))
+      → outcomeOf (replyOf Done) (take headLen (headed s 0 ws) ++ join (upFrom (emptied s) 0 (s .g))) ≡ perform ws (Make (s .k) (s .n) (s .m) (s .g))
   unfolding replyOf
   made-outcome h =
       ap (outcomeOf (accepted [])) (made-swept s ws ∙ ap made (sym (shaped-proper s p)))
@@ -190,7 +190,7 @@ module _ (s : Shape) (p : Proper s) (ws : List ℕ) where
       (make-fits ws (s .k) (s .n) (s .m) (s .g) inside (h ∙ ap bookWords (sym (shaped-proper s p)))))
 
 pub clocked-outcome : (ws : List ℕ) (s : Shape) (clock to : ℕ) → Open ws s clock → firstRefusal ws (Clock to) ≡ 0
-    → outcomeOf (replyOf Done) (take 8 (headed s to ws) ++ join (upFrom (advanced s clock to (headed s to ws)) 0 (s .g))) ≡ perform ws (Clock to)
+    → outcomeOf (replyOf Done) (take headLen (headed s to ws) ++ join (upFrom (advanced s clock to (headed s to ws)) 0 (s .g))) ≡ perform ws (Clock to)
 unfolding replyOf
 clocked-outcome ws s clock to o h = ap (outcomeOf (accepted [])) (clocked-swept ws s clock to o h) ∙ sym (accepted-outcome ws (Clock to) h)
 

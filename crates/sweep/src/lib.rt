@@ -6,7 +6,7 @@ use shape::Shape;
 ghost use mathlib.Core.Path.{_≡_};
 ghost use mathlib.Core.List.{_++_};
 ghost use lib.ListN.{length, take};
-ghost use Rattle.shape.specs.Layout.{bookWords};
+ghost use Rattle.shape.specs.Layout.{headLen, bookWords};
 ghost use Rattle.model.specs.Block.{upFrom};
 ghost use Rattle.model.specs.Words.{blockPart, withBlock, join};
 ghost use Rattle.model.specs.Sound.{soundBlock};
@@ -27,7 +27,7 @@ fn clear_block(book: &mut [u32], s: Shape, grade: u32)
 // Empties every block. The words may be any.
 pub fn clear_blocks(book: &mut [u32], s: Shape)
     requires { ⌜ (length (now book) ≡ bookWords s) × Proper s ⌝ }
-    ensures { λ _. ⌜ now (book .exit) ≡ take 8 (now (book .entry)) ++ join (upFrom (emptied s) 0 (s .g)) ⌝ }
+    ensures { λ _. ⌜ now (book .exit) ≡ take headLen (now (book .entry)) ++ join (upFrom (emptied s) 0 (s .g)) ⌝ }
 {
     let count = s.g as u32;
     let mut grade: u32 = 0;
@@ -49,7 +49,7 @@ fn advance_block(book: &mut [u32], s: Shape, grade: u32, old: u32, new: u32)
 // Empties in every block the halves that the clock empties.
 pub fn advance_blocks(book: &mut [u32], s: Shape, old: u32, new: u32)
     requires { ⌜ AllSound s (now book) ⌝ }
-    ensures { λ _. ⌜ now (book .exit) ≡ take 8 (now (book .entry)) ++ join (upFrom (advanced s old new (now (book .entry))) 0 (s .g)) ⌝ }
+    ensures { λ _. ⌜ now (book .exit) ≡ take headLen (now (book .entry)) ++ join (upFrom (advanced s old new (now (book .entry))) 0 (s .g)) ⌝ }
 {
     let count = s.g as u32;
     let mut grade: u32 = 0;

@@ -6,6 +6,7 @@ use native.Mathlib.Nat.{add-zero}
 use native.Mathlib.Omega.{arith}
 use lib.ListN.{length, getD, take, drop, length-drop}
 use lib.Seq.{take-all, getD-drop, drop-drop}
+use Rattle.shape.specs.Layout.{slotLen, slotStart}
 use Rattle.model.specs.Level.{Bucket, bucketOf}
 use Rattle.model.specs.Words.{slot, slots}
 use Rattle.laws.specs.LevelWords.{slots-step}
@@ -17,7 +18,7 @@ content b = bucketOf (b .offset) (b .width) (b .weight)
 abbrev pub front : List ℕ → Bucket  -- the slot at the front of words
 front ws = bucketOf (getD ws 0 0) (getD ws 1 0) (getD ws 2 0)
 
-pub front-slot : (ws : List ℕ) (j : ℕ) → front (drop (2 + 3 * j) ws) ≡ slot ws j
+pub front-slot : (ws : List ℕ) (j : ℕ) → front (drop (slotStart j) ws) ≡ slot ws j
 front-slot ws j = simp (getD-drop, add-zero)
 
 -- a part of words up to their end
@@ -29,15 +30,15 @@ pub moved : (rest ws : List ℕ) (a n : ℕ) → rest ≡ drop a ws → take (le
 moved rest ws a n e = part-all rest n ∙ ap (drop n) e ∙ drop-drop n a ws
 
 -- past slot j, slot j + 1 is at the front
-pub front-moved : (rest ws : List ℕ) (j : ℕ) → rest ≡ drop (2 + 3 * j) ws → take (length rest - 3) (drop 3 rest) ≡ drop (2 + 3 * (j + 1)) ws
+pub front-moved : (rest ws : List ℕ) (j : ℕ) → rest ≡ drop (slotStart j) ws → take (length rest - slotLen) (drop slotLen rest) ≡ drop (slotStart (j + 1)) ws
 front-moved rest ws j e =
-    moved rest ws (2 + 3 * j) 3 e ∙ ap (λ (n : ℕ). drop n ws) {x = 2 + 3 * j + 3} {y = 2 + 3 * (j + 1)} (omega arith)
+    moved rest ws (slotStart j) 3 e ∙ ap (λ (n : ℕ). drop n ws) {x = slotStart j + 3} {y = slotStart (j + 1)} (omega arith)
 
 -- the slot that starts n words after slot j
-pub front-at : (ws rest : List ℕ) (j n m : ℕ) → rest ≡ drop (2 + 3 * j) ws → n + 3 * j ≡ 3 * m → front (drop n rest) ≡ slot ws m
+pub front-at : (ws rest : List ℕ) (j n m : ℕ) → rest ≡ drop (slotStart j) ws → n + slotLen * j ≡ slotLen * m → front (drop n rest) ≡ slot ws m
 front-at ws rest j n m e h =
-    ap (λ (z : List ℕ). front (drop n z)) e ∙ ap front (drop-drop n (2 + 3 * j) ws)
-    ∙ ap (λ (z : ℕ). front (drop z ws)) {x = 2 + 3 * j + n} {y = 2 + 3 * m} (omega (arith, h)) ∙ front-slot ws m
+    ap (λ (z : List ℕ). front (drop n z)) e ∙ ap front (drop-drop n (slotStart j) ws)
+    ∙ ap (λ (z : ℕ). front (drop z ws)) {x = slotStart j + n} {y = slotStart m} (omega (arith, h)) ∙ front-slot ws m
 
 pub cons-same : {b c : Bucket} {bs cs : List Bucket} → b ≡ c → bs ≡ cs → b ∷ bs ≡ c ∷ cs
 cons-same {b} {c} {bs} {cs} p q = ap (λ (z : Bucket). z ∷ bs) p ∙ ap (λ (z : List Bucket). c ∷ z) q

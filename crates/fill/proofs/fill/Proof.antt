@@ -5,6 +5,7 @@ use mathlib.Core.List.{List}
 use Prim.Native.Nat.{ℕ, suc, _+_, _-_, _≤_}
 use native.Mathlib.Numerals.{add-one}
 use lib.ListN.{length, getD, set, length-set}
+use Rattle.shape.specs.Layout.{totalStart}
 use Rattle.laws.specs.BlockWords.{blockWords-halves}
 use Rattle.laws.specs.Delivery.{delivering, delivering-all}
 use Rattle.fill.specs.Fill.{Fills, total-fits, level-in, level-takes, level-filled}
@@ -15,7 +16,7 @@ use Rattle.fill.proofs.fill.Tie as tie
 abbrev Inv-loop : tie.InvT-loop
 Inv-loop block₀ s stamp parity x v at total i₀ block i =
     (i ≤ suc (s .last)) × (length block ≡ length block₀)
-    × ((ws : List ℕ) → block₀ ≡ set ws parity (getD ws parity 0 + v) → Fills s stamp parity x v ws → block ≡ delivering s stamp v ws i)
+    × ((ws : List ℕ) → block₀ ≡ set ws parity (getD ws (totalStart parity) 0 + v) → Fills s stamp parity x v ws → block ≡ delivering s stamp v ws i)
 
 abbrev μ-loop : tie.MeasureT-loop
 μ-loop block₀ s stamp parity x v at total i₀ block i = suc (s .last) - i

@@ -6,6 +6,7 @@ use lib.ListN.{getD}
 use borrow.Author.Needs.{needs}
 use borrow.Fn.Kinds.{In}
 use borrow.Fn.PlainCycle.{Measures, is, falls, and}
+use Rattle.shape.specs.Layout.{slotStart}
 use Rattle.model.specs.Words.{encodeLevel}
 use Rattle.insert.specs.Ready.{Cut, filled, onward, next-upper, next-lower, given-up}
 use Rattle.insert.proofs.pour.Reads as pour
@@ -20,7 +21,7 @@ use Rattle.insert.proofs.+pour.{statement}
 use Rattle.insert.proofs.+pour.Tie.{close}
 
 abbrev μ-pour : Measures 1 pour-kinds.ps ℕ
-μ-pour κs a = getD (a .0 .now) (2 + 3 * a .1 .1 .1 .1 .1 .0 + 1) 0
+μ-pour κs a = getD (a .0 .now) (slotStart (a .1 .1 .1 .1 .1 .0) + 1) 0
 
 abbrev pour-at : ℕ → In 1 pour-kinds.ps
 pour-at t = and 1 pour-kinds.ps (is 1 pour-kinds.ps μ-pour t) pour.Pre

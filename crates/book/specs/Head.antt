@@ -1,29 +1,61 @@
--- What opening a book tells: the first of the refusals that clock, delivery and question begin with, or the shape and the clock.
+-- What opening a book answers: the first of the refusals that clock, delivery and question begin with, or the shape and the clock.
 -- Assumes nothing.
 use mathlib.Core.Bool.{Bool, true, false, cond, not, _&&_}
-use mathlib.Core.Path.{_≡_}
-use mathlib.Core.List.{List}
+use mathlib.Core.Path.{_≡_, refl, sym, ap}
+use mathlib.Core.List.{List, [], _∷_, _++_}
 use Prim.Native.Nat.{ℕ, _≤_, _<_}
 use lib.Dec.{eqb}
 use lib.ListN.{length, getD}
-use borrow.Author.Tests.{lt-ltb, le-ltb, le-leb, lt-leb}
+use borrow.Author.Tests.{lt-ltb, le-ltb, le-leb, lt-leb, eqb-true, eqb-false, ne-eqb}
 use Rattle.shape.specs.declared.Shape.{Shape}
-use Rattle.shape.specs.Limits.{within}
+use Rattle.shape.specs.Limits.{Reply, refused, accepted, within, valuesOf}
+use Rattle.shape.specs.LimitsLaws.{shapeIn}
 use Rattle.shape.specs.Layout.{headLen, bookWords}
 use Rattle.model.specs.Words.{shapeOf, clockOf}
 use Rattle.model.specs.Sound.{soundHead, maxClock}
 use Rattle.model.specs.Calls.{firstOf, opened, bookView}
 use Rattle.model.specs.Reply.{numberOf}
+use Rattle.laws.specs.Refusals.{numberOf-pos}
 use Rattle.book.specs.declared.head.Opened.{Opened}
 use Rattle.book.specs.declared.head.Opened.the-variants.{Book, Refused}
+
+-- the number and the values of each case of what opening a book, or judging a call, answers: of an accepted one the shape's values and
+-- the clock
+unfoldable pub openedOf : Opened → Reply
+openedOf (Book s clock) = accepted (valuesOf s ++ clock ∷ [])
+openedOf (Refused r) = refused (numberOf r)
+
+-- what it must answer for these words, by the number of the first refusal that applies, which is 0 where none does
+unfoldable pub verdict : ℕ → List ℕ → Reply
+verdict number ws = cond (eqb number 0) (accepted (valuesOf (shapeOf ws) ++ clockOf ws ∷ [])) (refused number)
 
 -- the number of the first refusal that every call but make begins with
 unfoldable pub openedNumber : List ℕ → ℕ
 openedNumber ws = firstOf (opened (bookView ws))
 
-abbrev pub Opens : List ℕ → Opened → Type 0
-Opens ws (Book s clock) = (openedNumber ws ≡ 0) × (s ≡ shapeOf ws) × (clock ≡ clockOf ws)
-Opens ws (Refused r) = openedNumber ws ≡ numberOf r
+-- ---- the same case by case
+
+abbrev pub Told : ℕ → List ℕ → Opened → Type 0
+Told number ws (Book s clock) = (number ≡ 0) × (s ≡ shapeOf ws) × (clock ≡ clockOf ws)
+Told number ws (Refused r) = number ≡ numberOf r
+
+module _ (number : ℕ) (ws : List ℕ) where
+  pub told-verdict : (r : Opened) → Told number ws r → openedOf r ≡ verdict number ws
+  unfolding openedOf verdict
+  told-verdict (Book s clock) t = rw (t .0, t .1, t .2)
+  told-verdict (Refused r) t = rw (t, ne-eqb (numberOf r) 0 (numberOf-pos r))
+
+  pub verdict-told : (r : Opened) → openedOf r ≡ verdict number ws → Told number ws r
+  unfolding openedOf verdict
+  verdict-told r e = go (eqb number 0) refl r e
+    where
+      go : (t : Bool) → eqb number 0 ≡ t → (r : Opened) → openedOf r ≡ cond t (accepted (valuesOf (shapeOf ws) ++ clockOf ws ∷ [])) (refused number) → Told number ws r
+      go true h (Book s clock) e = (eqb-true number 0 h, ap (λ (x : Reply). shapeIn (x .values)) e, ap (λ (x : Reply). getD (x .values) 5 0) e)
+      go true h (Refused r) e = absurd (numberOf-pos r (ap (λ (x : Reply). x .number) e))
+      go false h (Book s clock) e = let none : 0 ≡ number = ap (λ (x : Reply). x .number) e in absurd (eqb-false number 0 h (sym none))
+      go false h (Refused r) e = ap (λ (x : Reply). x .number) (sym e)
+
+-- ---- what the head tells
 
 -- the last three words of the head are zero
 abbrev pub isBlank : List ℕ → Bool

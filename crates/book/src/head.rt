@@ -7,7 +7,7 @@ ghost use mathlib.Core.Path.{_≡_};
 ghost use Prim.Native.Nat.{_≤_};
 ghost use lib.ListN.{length};
 ghost use Rattle.shape.specs.Layout.{headLen};
-ghost use Rattle.book.specs.Head.{Opens, Shaped, isBlank};
+ghost use Rattle.book.specs.Head.{openedOf, verdict, openedNumber, Shaped, isBlank};
 
 // The clock goes no further.
 pub const MAX_CLOCK: u32 = 2000000000;
@@ -35,7 +35,7 @@ fn is_blank(book: &[u32]) -> bool
 // A book of this shape: its clock, the last words of its head and its length are looked at.
 fn with_shape(book: &[u32], shape: Shape) -> Opened
     requires { ⌜ Shaped (now book) shape ⌝ }
-    ensures { λ r. ⌜ Opens (now (book .entry)) r ⌝ }
+    ensures { λ r. ⌜ openedOf r ≡ verdict (openedNumber (now (book .entry))) (now (book .entry)) ⌝ }
 {
     let clock = book[4];
     let blank = is_blank(book);
@@ -54,7 +54,7 @@ fn with_shape(book: &[u32], shape: Shape) -> Opened
 
 // Words of any length and content.
 pub fn open(book: &[u32]) -> Opened
-    ensures { λ r. ⌜ Opens (now (book .entry)) r ⌝ }
+    ensures { λ r. ⌜ openedOf r ≡ verdict (openedNumber (now (book .entry))) (now (book .entry)) ⌝ }
 {
     if book.len() < HEAD_LEN {
         return Opened::Refused(Refusal::Length);

@@ -22,17 +22,12 @@ use Rattle.laws.specs.Proper.{Proper, Whole}
 use Rattle.laws.specs.Refusals.{numberOf-pos, viewOf, opened-accepted}
 use Rattle.model.specs.Claim.{ByCall}
 use Rattle.laws.specs.BookWords.{soundHead-limits, soundHead-clock, length-blockPart}
-use Rattle.book.specs.declared.head.Opened.{Opened}
-use Rattle.book.specs.declared.head.Opened.the-variants.{Book, Refused}
-use Rattle.book.specs.Head.{openedNumber}
+use Rattle.book.specs.declared.head.Opened.the-variants.{Book}
+use Rattle.book.specs.Head.{openedNumber, Told}
 use Rattle.book.specs.Part.{InBook}
 
 abbrev pub firstRefusal : List ℕ → Call → ℕ
 firstRefusal ws call = firstOf (refusals (bookView ws) call)
-
-abbrev pub Judges : List ℕ → Call → Opened → Type 0
-Judges ws call (Book s clock) = (firstRefusal ws call ≡ 0) × (s ≡ shapeOf ws) × (clock ≡ clockOf ws)
-Judges ws call (Refused r) = firstRefusal ws call ≡ numberOf r
 
 -- a book whose head is sound and whose length is right
 pub record Open (ws : List ℕ) (s : Shape) (clock : ℕ) : Type 0 where
@@ -170,7 +165,7 @@ module _ {ws : List ℕ} {s : Shape} {clock grade stamp volume : ℕ} (d : Due w
       ∙ rw (lt-ltb grade (s .g) (d .inside), d .fair, le-ltb clock stamp (d .come), le-ltb (stamp + 2 ^ s .k) clock (d .early))
 
 -- an accepted call found the book open
-pub judges-open : (ws : List ℕ) (s : Shape) (clock : ℕ) (call : Call) → Begins call → Judges ws call (Book s clock) → Open ws s clock
+pub judges-open : (ws : List ℕ) (s : Shape) (clock : ℕ) (call : Call) → Begins call → Told (firstRefusal ws call) ws (Book s clock) → Open ws s clock
 unfolding openedNumber
 judges-open ws s clock call b j = record {
   number = starts (bookView ws) (restOf (bookView ws) call) (sym (ap firstOf (begins (bookView ws) call b)) ∙ j .0);

@@ -30,10 +30,13 @@ put x (b ∷ bs) = cond (ltb x (b .offset)) (bucketOf x 1 1 ∷ b ∷ bs) (cond 
 abbrev pub holds : Bucket → ℕ → Bool  -- the bucket covers offset x
 holds b x = leb (b .offset) x && ltb x (b .offset + b .width)
 
-abbrev pub split : ℕ → Bucket → List Bucket  -- at level i, after a gain: longer than 1 and at 2^(i+1) it is halved, 2^i to each half
+abbrev pub isFull : ℕ → Bucket → Bool  -- at level i, after a gain: it weighs 2^(i+1) and is longer than 1
+isFull i b = eqb (b .weight) (2 ^ suc i) && ltb 1 (b .width)
+
+abbrev pub split : ℕ → Bucket → List Bucket  -- at level i a full bucket is halved, 2^i to each half
 split i b =
     let half = b .width / 2 in
-    cond (eqb (b .weight) (2 ^ suc i) && ltb 1 (b .width)) (bucketOf (b .offset) half (2 ^ i) ∷ bucketOf (b .offset + half) half (2 ^ i) ∷ []) (b ∷ [])
+    cond (isFull i b) (bucketOf (b .offset) half (2 ^ i) ∷ bucketOf (b .offset + half) half (2 ^ i) ∷ []) (b ∷ [])
 
 abbrev pub add : ℕ → ℕ → List Bucket → List Bucket  -- level i from 1: the bucket covering offset x gains 1
 add i x [] = []

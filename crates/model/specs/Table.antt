@@ -138,6 +138,8 @@ table =
     -- P8: of the five the last three change nothing at level 1
     ∷ example (p₂ ++ d 0 2 ∷ []) (levelIs 1 (levelOf 1 (bucketOf 1 1 2 ∷ bucketOf 2 2 2 ∷ [])) ∷ [])
     ∷ example (p₂ ++ d 0 5 ∷ []) (levelIs 1 (levelOf 1 (bucketOf 1 1 2 ∷ bucketOf 2 2 2 ∷ [])) ∷ [])
+    -- a bucket of length 1 gains and does not split
+    ∷ example (p₇ ++ d 2 2 ∷ []) (levelIs 1 (levelOf 2 (bucketOf 2 1 4 ∷ bucketOf 3 1 2 ∷ [])) ∷ [])
     -- P10
     ∷ example (p₇ ++ Clock 8 ∷ [])
     (answers (d 4 1) (accepted [])
@@ -163,8 +165,11 @@ table-holds = (
             (
               (refl, tt),
               (
-                (refl, (refl, (refl, tt))),
-                tt,
+                (refl, tt),
+                (
+                  (refl, (refl, (refl, tt))),
+                  tt,
+                ),
               ),
             ),
           ),

@@ -49,7 +49,7 @@ within-limits k n m g e =
 -- ---- what the constructor's answer tells
 
 -- the shape whose values these are
-abbrev shapeIn : List ℕ → Shape
+abbrev pub shapeIn : List ℕ → Shape
 shapeIn vs = record { k = getD vs 0 0; n = getD vs 1 0; m = getD vs 2 0; g = getD vs 3 0; last = getD vs 4 0 }
 
 module _ (k n m g : ℕ) where

@@ -1,5 +1,4 @@
--- What opening a book answers: the first of the refusals that clock, delivery and question begin with, or the shape and the clock.
--- Assumes nothing.
+-- Laws of what opening a book answers: its cases, and what each part of the head tells. Assumes nothing.
 use mathlib.Core.Bool.{Bool, true, false, cond, not, _&&_}
 use mathlib.Core.Path.{_≡_, refl, sym, ap}
 use mathlib.Core.List.{List, [], _∷_, _++_}
@@ -13,25 +12,12 @@ use Rattle.shape.specs.LimitsLaws.{shapeIn}
 use Rattle.shape.specs.Layout.{headLen, bookWords}
 use Rattle.model.specs.Words.{shapeOf, clockOf}
 use Rattle.model.specs.Sound.{soundHead, maxClock}
-use Rattle.model.specs.Calls.{firstOf, opened, bookView}
+use Rattle.model.specs.Calls.{bookView}
 use Rattle.model.specs.Reply.{numberOf}
 use Rattle.laws.specs.Refusals.{numberOf-pos}
 use Rattle.book.specs.declared.head.Opened.{Opened}
 use Rattle.book.specs.declared.head.Opened.the-variants.{Book, Refused}
-
--- the number and the values of each case of what opening a book, or judging a call, answers: of an accepted one the shape's values and
--- the clock
-unfoldable pub openedOf : Opened → Reply
-openedOf (Book s clock) = accepted (valuesOf s ++ clock ∷ [])
-openedOf (Refused r) = refused (numberOf r)
-
--- what it must answer for these words, by the number of the first refusal that applies, which is 0 where none does
-unfoldable pub verdict : ℕ → List ℕ → Reply
-verdict number ws = cond (eqb number 0) (accepted (valuesOf (shapeOf ws) ++ clockOf ws ∷ [])) (refused number)
-
--- the number of the first refusal that every call but make begins with
-unfoldable pub openedNumber : List ℕ → ℕ
-openedNumber ws = firstOf (opened (bookView ws))
+use Rattle.book.specs.Verdict.{openedOf, verdict, openedNumber}
 
 -- ---- the same case by case
 

@@ -7,7 +7,8 @@ ghost use mathlib.Core.Path.{_≡_};
 ghost use Prim.Native.Nat.{_≤_};
 ghost use lib.ListN.{length};
 ghost use Rattle.shape.specs.Layout.{headLen};
-ghost use Rattle.book.specs.Head.{openedOf, verdict, openedNumber, Shaped, isBlank};
+ghost use Rattle.book.specs.Verdict.{openedOf, verdict, openedNumber};
+ghost use Rattle.book.specs.Head.{Shaped, isBlank};
 
 // The clock goes no further.
 pub const MAX_CLOCK: u32 = 2000000000;

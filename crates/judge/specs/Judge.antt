@@ -23,11 +23,9 @@ use Rattle.laws.specs.Refusals.{numberOf-pos, viewOf, opened-accepted}
 use Rattle.model.specs.Claim.{ByCall}
 use Rattle.laws.specs.BookWords.{soundHead-limits, soundHead-clock, length-blockPart}
 use Rattle.book.specs.declared.head.Opened.the-variants.{Book}
-use Rattle.book.specs.Head.{openedNumber, Told}
+use Rattle.book.specs.Verdict.{openedNumber, firstRefusal}
+use Rattle.book.specs.Head.{Told}
 use Rattle.book.specs.Part.{InBook}
-
-abbrev pub firstRefusal : List ℕ → Call → ℕ
-firstRefusal ws call = firstOf (refusals (bookView ws) call)
 
 -- a book whose head is sound and whose length is right
 pub record Open (ws : List ℕ) (s : Shape) (clock : ℕ) : Type 0 where

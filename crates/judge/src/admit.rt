@@ -8,8 +8,8 @@ ghost use mathlib.Core.Bool.{_||_};
 ghost use mathlib.Core.Path.{_≡_};
 ghost use lib.Dec.{ltb, eqb};
 ghost use Rattle.model.specs.declared.Call.the-variants as Call;
-ghost use Rattle.book.specs.Head.{openedOf, verdict};
-ghost use Rattle.judge.specs.Judge.{firstRefusal, Open, Due};
+ghost use Rattle.book.specs.Verdict.{openedOf, verdict, firstRefusal};
+ghost use Rattle.judge.specs.Judge.{Open, Due};
 
 // A volume is at most this.
 const MAX_VOLUME: u32 = 65535;

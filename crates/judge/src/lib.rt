@@ -11,8 +11,8 @@ use model::Refusal;
 use shape::Shape;
 ghost use mathlib.Core.Path.{_≡_};
 ghost use Rattle.model.specs.declared.Call.the-variants as Call;
-ghost use Rattle.book.specs.Head.{openedOf, verdict};
-ghost use Rattle.judge.specs.Judge.{firstRefusal, Open};
+ghost use Rattle.book.specs.Verdict.{openedOf, verdict, firstRefusal};
+ghost use Rattle.judge.specs.Judge.{Open};
 
 fn judge_clock_in(book: &[u32], s: Shape, clock: u32, to: u32) -> Opened
     requires { ⌜ Open (now book) s clock ⌝ }

@@ -5,7 +5,8 @@ use lib.Dec.{ltb}
 use Rattle.model.specs.declared.Call.the-variants.{Clock}
 use Rattle.model.specs.Sound.{maxClock}
 use Rattle.book.specs.Head.{told-verdict}
-use Rattle.judge.specs.Judge.{firstRefusal, clock-judges, open-size, open-proper}
+use Rattle.book.specs.Verdict.{firstRefusal}
+use Rattle.judge.specs.Judge.{clock-judges, open-size, open-proper}
 use Rattle.judge.proofs.judge_clock_in.Statement.{statement}
 use Rattle.judge.proofs.judge_clock_in.Tie as tie
 

@@ -2,7 +2,8 @@
 use borrow.Author.Needs.{needs}
 use mathlib.Core.Path.{ap, sym, _∙_}
 use Rattle.model.specs.declared.Call.the-variants.{Delivery}
-use Rattle.book.specs.Head.{openedOf, verdict-told, told-verdict}
+use Rattle.book.specs.Verdict.{openedOf}
+use Rattle.book.specs.Head.{verdict-told, told-verdict}
 use Rattle.judge.specs.Judge.{head-judges}
 use Rattle.judge.proofs.judge_delivery.Statement.{statement}
 use Rattle.judge.proofs.judge_delivery.Tie as tie

@@ -9,7 +9,8 @@ use Rattle.model.specs.declared.Call.the-variants.{Query}
 use Rattle.model.specs.Words.{blockPart}
 use Rattle.model.specs.Sound.{soundBlock}
 use Rattle.book.specs.Head.{told-verdict}
-use Rattle.judge.specs.Judge.{firstRefusal, query-judges, open-proper, open-inside}
+use Rattle.book.specs.Verdict.{firstRefusal}
+use Rattle.judge.specs.Judge.{query-judges, open-proper, open-inside}
 use Rattle.judge.proofs.judge_query_in.Statement.{statement}
 use Rattle.judge.proofs.judge_query_in.Tie as tie
 

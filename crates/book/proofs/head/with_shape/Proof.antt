@@ -7,7 +7,8 @@ use lib.Dec.{eqb}
 use lib.ListN.{length}
 use Rattle.model.specs.Words.{clockOf}
 use Rattle.model.specs.Sound.{maxClock}
-use Rattle.book.specs.Head.{openedNumber, told-verdict, opened-ahead, opened-rest}
+use Rattle.book.specs.Verdict.{openedNumber}
+use Rattle.book.specs.Head.{told-verdict, opened-ahead, opened-rest}
 use Rattle.book.proofs.head.with_shape.Statement.{statement}
 use Rattle.book.proofs.head.with_shape.Tie as tie
 

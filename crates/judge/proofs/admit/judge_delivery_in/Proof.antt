@@ -10,7 +10,8 @@ use lib.Pow.{pow-mono}
 use Rattle.model.specs.declared.Call.the-variants.{Delivery}
 use Rattle.model.specs.Block.{late}
 use Rattle.book.specs.Head.{told-verdict}
-use Rattle.judge.specs.Judge.{firstRefusal, roomRefusal, delivery-judges, open-proper, open-clock}
+use Rattle.book.specs.Verdict.{firstRefusal}
+use Rattle.judge.specs.Judge.{roomRefusal, delivery-judges, open-proper, open-clock}
 use Rattle.judge.proofs.admit.judge_delivery_in.Statement.{statement}
 use Rattle.judge.proofs.admit.judge_delivery_in.Tie as tie
 

@@ -3,7 +3,8 @@ use mathlib.Core.Bool.{cond, not}
 use mathlib.Core.Path.{_≡_, _∙_}
 use Rattle.model.specs.declared.Call.the-variants.{Delivery}
 use Rattle.book.specs.Head.{told-verdict}
-use Rattle.judge.specs.Judge.{firstRefusal, due-judges, due-inside}
+use Rattle.book.specs.Verdict.{firstRefusal}
+use Rattle.judge.specs.Judge.{due-judges, due-inside}
 use Rattle.judge.proofs.admit.judge_room.Statement.{statement}
 use Rattle.judge.proofs.admit.judge_room.Tie as tie
 

@@ -17,7 +17,7 @@ use Rattle.model.specs.Reply.{numberOf}
 use Rattle.laws.specs.Refusals.{numberOf-pos}
 use Rattle.book.specs.declared.head.Opened.{Opened}
 use Rattle.book.specs.declared.head.Opened.the-variants.{Book, Refused}
-use Rattle.book.specs.Verdict.{openedOf, verdict, openedNumber}
+use Rattle.book.specs.Judgement.{openedOf, judgement, openedNumber}
 
 -- ---- the same case by case
 
@@ -26,14 +26,14 @@ Told number ws (Book s clock) = (number ≡ 0) × (s ≡ shapeOf ws) × (clock �
 Told number ws (Refused r) = number ≡ numberOf r
 
 module _ (number : ℕ) (ws : List ℕ) where
-  pub told-verdict : (r : Opened) → Told number ws r → openedOf r ≡ verdict number ws
-  unfolding openedOf verdict
-  told-verdict (Book s clock) t = rw (t .0, t .1, t .2)
-  told-verdict (Refused r) t = rw (t, ne-eqb (numberOf r) 0 (numberOf-pos r))
+  pub told-judgement : (r : Opened) → Told number ws r → openedOf r ≡ judgement number ws
+  unfolding openedOf judgement
+  told-judgement (Book s clock) t = rw (t .0, t .1, t .2)
+  told-judgement (Refused r) t = rw (t, ne-eqb (numberOf r) 0 (numberOf-pos r))
 
-  pub verdict-told : (r : Opened) → openedOf r ≡ verdict number ws → Told number ws r
-  unfolding openedOf verdict
-  verdict-told r e = go (eqb number 0) refl r e
+  pub judgement-told : (r : Opened) → openedOf r ≡ judgement number ws → Told number ws r
+  unfolding openedOf judgement
+  judgement-told r e = go (eqb number 0) refl r e
     where
       go : (t : Bool) → eqb number 0 ≡ t → (r : Opened) → openedOf r ≡ cond t (accepted (valuesOf (shapeOf ws) ++ clockOf ws ∷ [])) (refused number) → Told number ws r
       go true h (Book s clock) e = (eqb-true number 0 h, ap (λ (x : Reply). shapeIn (x .values)) e, ap (λ (x : Reply). getD (x .values) 5 0) e)

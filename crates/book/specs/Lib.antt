@@ -1,3 +1,3 @@
-pub mod Verdict
+pub mod Judgement
 pub mod Head
 pub mod Part

@@ -7,7 +7,7 @@ ghost use mathlib.Core.Path.{_≡_};
 ghost use Prim.Native.Nat.{_≤_};
 ghost use lib.ListN.{length};
 ghost use Rattle.shape.specs.Layout.{headLen};
-ghost use Rattle.book.specs.Verdict.{openedOf, verdict, openedNumber};
+ghost use Rattle.book.specs.Judgement.{openedOf, judgement, openedNumber};
 ghost use Rattle.book.specs.Head.{Shaped, isBlank};
 
 // The clock goes no further.
@@ -36,7 +36,7 @@ fn is_blank(book: &[u32]) -> bool
 // A book of this shape: its clock, the last words of its head and its length are looked at.
 fn with_shape(book: &[u32], shape: Shape) -> Opened
     requires { ⌜ Shaped (now book) shape ⌝ }
-    ensures { λ r. ⌜ openedOf r ≡ verdict (openedNumber (now (book .entry))) (now (book .entry)) ⌝ }
+    ensures { λ r. ⌜ openedOf r ≡ judgement (openedNumber (now (book .entry))) (now (book .entry)) ⌝ }
 {
     let clock = book[4];
     let blank = is_blank(book);
@@ -55,7 +55,7 @@ fn with_shape(book: &[u32], shape: Shape) -> Opened
 
 // Words of any length and content.
 pub fn open(book: &[u32]) -> Opened
-    ensures { λ r. ⌜ openedOf r ≡ verdict (openedNumber (now (book .entry))) (now (book .entry)) ⌝ }
+    ensures { λ r. ⌜ openedOf r ≡ judgement (openedNumber (now (book .entry))) (now (book .entry)) ⌝ }
 {
     if book.len() < HEAD_LEN {
         return Opened::Refused(Refusal::Length);

@@ -23,7 +23,7 @@ use Rattle.laws.specs.Refusals.{numberOf-pos, viewOf, opened-accepted}
 use Rattle.model.specs.Claim.{ByCall}
 use Rattle.laws.specs.BookWords.{soundHead-limits, soundHead-clock, length-blockPart}
 use Rattle.book.specs.declared.head.Opened.the-variants.{Book}
-use Rattle.book.specs.Verdict.{openedNumber, firstRefusal}
+use Rattle.book.specs.Judgement.{openedNumber, firstRefusal}
 use Rattle.book.specs.Head.{Told}
 use Rattle.book.specs.Part.{InBook}
 

@@ -8,7 +8,7 @@ ghost use mathlib.Core.Bool.{_||_};
 ghost use mathlib.Core.Path.{_≡_};
 ghost use lib.Dec.{ltb, eqb};
 ghost use Rattle.model.specs.declared.Call.the-variants as Call;
-ghost use Rattle.book.specs.Verdict.{openedOf, verdict, firstRefusal};
+ghost use Rattle.book.specs.Judgement.{openedOf, judgement, firstRefusal};
 ghost use Rattle.judge.specs.Judge.{Open, Due};
 
 // A volume is at most this.
@@ -27,7 +27,7 @@ fn is_outside(volume: u32) -> bool
 // 11 and 12, by the words of the named block.
 fn judge_room(book: &[u32], s: Shape, clock: u32, grade: u32, stamp: u32, volume: u32) -> Opened
     requires { ⌜ Due (now book) s clock grade stamp volume ⌝ }
-    ensures { λ r. ⌜ openedOf r ≡ verdict (firstRefusal (now (book .entry)) (Call.Delivery grade stamp volume)) (now (book .entry)) ⌝ }
+    ensures { λ r. ⌜ openedOf r ≡ judgement (firstRefusal (now (book .entry)) (Call.Delivery grade stamp volume)) (now (book .entry)) ⌝ }
 {
     let sound = block_sound(book, s, grade);
     let full = block_full(book, s, grade, stamp, volume);
@@ -50,7 +50,7 @@ pub fn judge_delivery_in(
     volume: u32,
 ) -> Opened
     requires { ⌜ Open (now book) s clock ⌝ }
-    ensures { λ r. ⌜ openedOf r ≡ verdict (firstRefusal (now (book .entry)) (Call.Delivery grade stamp volume)) (now (book .entry)) ⌝ }
+    ensures { λ r. ⌜ openedOf r ≡ judgement (firstRefusal (now (book .entry)) (Call.Delivery grade stamp volume)) (now (book .entry)) ⌝ }
 {
     let grades = s.g as u32;
     let known = grade < grades;

@@ -26,7 +26,7 @@ use Rattle.laws.specs.Halves.{total-decode}
 use Rattle.laws.specs.BookWords.{limits-within, soundHead-limits, length-blockPart}
 use Rattle.laws.specs.Parts.{allFrom-elim, upFrom-cong, replicate-upFrom}
 use Rattle.laws.specs.Refusals.{numberOf-pos, settle-accepted, settle-refused, AcceptedClock, accepted-clock, AcceptedDelivery, accepted-delivery, AcceptedQuery, accepted-query}
-use Rattle.book.specs.Verdict.{firstRefusal}
+use Rattle.book.specs.Judgement.{firstRefusal}
 use Rattle.judge.specs.Judge.{Open, open-size, open-proper}
 use Rattle.book.specs.Part.{InBook}
 use Rattle.sweep.specs.Sweeps.{AllSound, emptied, advanced}

@@ -21,7 +21,7 @@ ghost use Rattle.model.specs.Reply.{replyOf};
 ghost use Rattle.model.specs.Calls.{outcomeOf, perform};
 ghost use Rattle.model.specs.declared.Call.the-variants as Call;
 ghost use Rattle.laws.specs.Proper.{Proper};
-ghost use Rattle.book.specs.Verdict.{firstRefusal};
+ghost use Rattle.book.specs.Judgement.{firstRefusal};
 ghost use Rattle.judge.specs.Judge.{Open};
 
 // A book of a shape within its limits, if it has the length that the shape asks.

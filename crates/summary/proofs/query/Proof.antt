@@ -2,8 +2,8 @@
 use borrow.Author.Needs.{needs}
 use mathlib.Core.Path.{ap, sym, _∙_}
 use Rattle.model.specs.declared.Call.the-variants.{Query}
-use Rattle.book.specs.Verdict.{openedOf}
-use Rattle.book.specs.Head.{verdict-told}
+use Rattle.book.specs.Judgement.{openedOf}
+use Rattle.book.specs.Head.{judgement-told}
 use Rattle.judge.specs.Judge.{judges-open}
 use Rattle.summary.specs.Outcome.{refused-outcome}
 use Rattle.summary.proofs.query.Statement.{statement}
@@ -20,7 +20,7 @@ ask-requires c κs =
     let a = c .before .before .before .before .before .args in
     let told = c .before .shape .given in
     let call = Query (a .grade) (a .window) in
-    let j = verdict-told _ _ _ (ap openedOf (sym (told .1)) ∙ c .before .before .before .judge-query .ensures) in
+    let j = judgement-told _ _ _ (ap openedOf (sym (told .1)) ∙ c .before .before .before .judge-query .ensures) in
     (judges-open (a .book .now) (told .0 .0) (told .0 .1 .0) call tt j, j .0)
 
 enum-known-r : tie.Need-enum-known-r
@@ -34,7 +34,7 @@ returns-2 c =
     let a = c .before .before .before .before .before .args in
     let told = c .before .r .given in
     let call = Query (a .grade) (a .window) in
-    refused-outcome (a .book .now) call (told .0 .0) (verdict-told _ _ _ (ap openedOf (sym (told .1)) ∙ c .before .before .before .judge-query .ensures))
+    refused-outcome (a .book .now) call (told .0 .0) (judgement-told _ _ _ (ap openedOf (sym (told .1)) ∙ c .before .before .before .judge-query .ensures))
 
 pub query-spec : {M : Type 1} → statement M
 query-spec = tie.close (tie.spec judge-query-requires enum-known-shape ask-requires enum-known-r returns returns-2)

@@ -17,8 +17,8 @@ openedOf (Book s clock) = accepted (valuesOf s ++ clock ∷ [])
 openedOf (Refused r) = refused (numberOf r)
 
 -- what it must answer for these words, by the number of the first refusal that applies, which is 0 where none does
-unfoldable pub verdict : ℕ → List ℕ → Reply
-verdict number ws = cond (eqb number 0) (accepted (valuesOf (shapeOf ws) ++ clockOf ws ∷ [])) (refused number)
+unfoldable pub judgement : ℕ → List ℕ → Reply
+judgement number ws = cond (eqb number 0) (accepted (valuesOf (shapeOf ws) ++ clockOf ws ∷ [])) (refused number)
 
 -- the number of the first refusal that every call but make begins with
 unfoldable pub openedNumber : List ℕ → ℕ

@@ -1,4 +1,4 @@
--- A short buffer is left alone, and in any other each case stores its own text from the front on.
+-- A short buffer is left alone. In any other, each case stores its own text from the front on.
 use Rattle.model.specs.Reply.{replyOf}
 use Rattle.model.specs.declared.Answer.the-variants.{Done, Sum}
 use Rattle.text.specs.Text.{sumWord, refusedWord, numbered, textOf}

@@ -1,4 +1,4 @@
--- A short buffer is left alone, and in any other the text is stored from the front on.
+-- A short buffer is left alone. In any other, the text is stored from the front on.
 use Rattle.text.specs.Text.{unreadText}
 use Rattle.text.specs.TextLaws.{written-none, put-none, stored-front}
 use native.Mathlib.Omega.{arith}

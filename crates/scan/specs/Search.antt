@@ -1,4 +1,4 @@
--- What the search for the slot of an offset goes by. Assumes nothing.
+-- What the search for the slot of an offset relies on. Assumes nothing.
 use mathlib.Core.Bool.{Bool, true, false, _&&_}
 use mathlib.Core.List.{List}
 use mathlib.Core.Path.{_≡_}
@@ -12,10 +12,10 @@ use Rattle.model.specs.Words.{slot, decodeLevel}
 use Rattle.laws.specs.Place.{place, endOf, EndsRise, slot-most, slot-least}
 use Rattle.scan.specs.declared.Span.{Span}
 
-abbrev pub isPast : List ℕ → ℕ → ℕ → ℕ → Bool  -- there is a slot `step` below `high`, and it ends past offset x
+abbrev pub isPast : List ℕ → ℕ → ℕ → ℕ → Bool  -- there is a slot `step` below `high`, and its bucket ends after offset x
 isPast ws high step x = leb step high && ltb x (endOf (slot ws (high - step)))
 
-abbrev pub Spans : ℕ → List ℕ → Span → Type 0  -- the place of offset x is in the span
+abbrev pub Spans : ℕ → List ℕ → Span → Type 0  -- the slot of offset x is in the span
 Spans x ws r = let p = place x (decodeLevel ws .buckets) in (r .low ≤ p) × (p ≤ r .high) × (r .high ≤ getD ws 0 0)
 
 module _ (ws : List ℕ) (high step x : ℕ) (some : 0 < step) (few : high ≤ getD ws 0 0) where

@@ -1,4 +1,4 @@
--- Invariant: the place lies between low and high, as the span says at first. The slot in the middle, which is below high, tells in which half.
+-- Invariant: the slot lies between low and high, at first by the span. The slot in the middle, which is below high, says in which half.
 use mathlib.Core.Path.{_≡_, ap, _∙_}
 use Prim.Native.Nat.{_+_, _-_, _/_, _≤_}
 use native.Mathlib.Omega.{arith}

@@ -1,4 +1,4 @@
--- Invariant: the place is at most high, and the step is not 0, so the slot that is looked at is below high.
+-- Invariant: the slot of x is at most high, and the step is not 0, so the slot that is tested is below high.
 use mathlib.Core.Path.{sym, _∙_}
 use Prim.Native.Nat.{_-_, _≤_, _<_}
 use native.Mathlib.Omega.{arith}
@@ -34,7 +34,7 @@ loop-holds c =
 is-past-requires : tie.Need-is-past-requires Inv-loop μ-loop
 is-past-requires c κs = omega arith
 
--- the slot that was looked at is there, and bounds the place
+-- the tested slot exists, and bounds the slot of x
 stepped : (c : tie.Then1 Inv-loop μ-loop) →
     let l = c .before .before in
     let a = l .before .before .before .before .args in

@@ -1,4 +1,4 @@
--- The slot is below `high`, so it is there.
+-- The slot is below `high`, so it exists.
 use mathlib.Core.Path.{_≡_, ap, _∙_}
 use Prim.Native.Nat.{_-_}
 use borrow.Author.Needs.{needs}

@@ -1,4 +1,4 @@
--- A pass over the buckets of a level finds just what soundness asks of them, and their weight. Assumes nothing.
+-- The exact pass over the buckets of a level finds exactly what soundness asks of them, and their weight. Assumes nothing.
 use mathlib.Core.List.{List, [], _∷_}
 use mathlib.Core.Logic.{⊎-elim}
 use mathlib.Core.Path.{_≡_, refl, sym, ap, _∙_}
@@ -20,7 +20,7 @@ use Rattle.words.specs.Bits.{or-none, none-or, or-least, xor-none, none-xor, lo
 use Rattle.pass_laws.specs.Pass.{unseen, below, less, spread, seeSingle, seeBucket, seeOne, seeAll, leastOf, seenLevel, weightSeen, soundSeen}
 use Rattle.pass_laws.specs.declared.Seen.{Seen}
 
--- what the tests ask of a pass
+-- what the tests require of a pass
 record Passed (k i : ℕ) (t : Seen) : Type 0 where
   exact : t .faults ≡ 0
   inside : t .reach < 2 ^ k
@@ -35,7 +35,7 @@ none-below x y = by-lt {a = 1} {b = 0} x y (λ (z : ℕ). z ≡ 0 → y ≤ x) (
 below-none : (x y : ℕ) → y ≤ x → below x y ≡ 0
 below-none x y h = rw (le-ltb x y h)
 
--- a length that the number before it, below 2 ^ k, shows to be within 2 ^ k
+-- a width within 2 ^ k, as follows if the word before it is below 2 ^ k
 pub record Length (k w : ℕ) : Type 0 where
   pub some : 0 < w
   pub before : less w ≡ w - 1
@@ -45,7 +45,7 @@ pub reached : (k w : ℕ) → k ≤ 31 → less w < 2 ^ k → Length k w
 reached k zero hk h = absurd (omega (arith, pow-mono hk))
 reached k (suc w) hk h = record { some = omega arith; before = omega arith; most = omega arith }
 
--- the word that 1 more, up to a multiple of 2 ^ 32, is w
+-- the word that is w if 1 is added modulo 2 ^ 32
 pub less-is : (r w : ℕ) → r < 2 ^ 32 → (r + 1) % 2 ^ 32 ≡ w → r ≡ less w
 less-is r zero h e = omega arith
 less-is r (suc w) h e = omega arith
@@ -54,7 +54,7 @@ pub before-is : (w : ℕ) → 0 < w → less w ≡ w - 1
 before-is zero h = absurd (omega arith)
 before-is (suc w) h = omega arith
 
--- ---- a length and an offset that have no bit in common with the number before the length
+-- ---- a width and an offset that share no bit with the number before the width
 
 pub aligned : (k o w : ℕ) → 0 < w → w ≤ 2 ^ k → bitAnd w (w - 1) ≡ 0 → bitAnd o (w - 1) ≡ 0 → Dyadic k o w
 aligned k o w some most p q =
@@ -80,7 +80,7 @@ module _ (k i count : ℕ) (few : k ≤ 20) where
   abbrev least : ℕ
   least = leastOf count i
 
-  -- a bucket that passed is sound, and those before it had passed
+  -- a bucket that passed is sound, and those before it passed
   bucket-sound : (t : Seen) (b : Bucket) → Passed k i (seeBucket least t b) → Passed k i t × SoundBucket k i count (t .end) b
   unfolding seeBucket
   bucket-sound t b p =
@@ -129,7 +129,7 @@ module _ (k i count : ℕ) (few : k ≤ 20) where
 -- ---- one bucket of level 0
 
 module _ (k i : ℕ) where
-  -- a bucket that passed is sound, and those before it had passed
+  -- a bucket that passed is sound, and those before it passed
   single-sound : (t : Seen) (b : Bucket) → Passed k i (seeSingle t b) → Passed k i t × Single k (t .end) b
   unfolding seeSingle
   single-sound t b p =
@@ -156,7 +156,7 @@ module _ (k i : ℕ) where
 
 -- ---- all buckets
 
--- where all passed, those before had passed
+-- if all passed, those before passed
 passed-before : (k i : ℕ) (see : Seen → Bucket → Seen) → ((t : Seen) (b : Bucket) → Passed k i (see t b) → Passed k i t)
     → (t : Seen) (bs : List Bucket) → Passed k i (seeAll see t bs) → Passed k i t
 passed-before k i see back t [] p = p
@@ -178,7 +178,7 @@ module _ (k i : ℕ) (few : k ≤ 20) where
   sound-singles t (b ∷ bs) p r =
       sound-singles (seeSingle t b) bs (sound-single k i t b p (r .0)) (rw (next-single t b (r .0 .high)) (r .1))
 
--- the ends stay below 2 ^ 32 as long as there is room for this many buckets
+-- the ends stay below 2 ^ 32 as long as there is room for n buckets more
 pub end-next : (k i count start : ℕ) (b : Bucket) (n : ℕ) → k ≤ 20 → start + 1048576 * suc n < 2 ^ 32 → SoundBucket k i count start b
     → ((b .offset + b .width) % 2 ^ 32 ≡ b .offset + b .width) × (b .offset + b .width + 1048576 * n < 2 ^ 32)
 end-next k i count start b n few room s =
@@ -213,14 +213,14 @@ module _ (k i count : ℕ) (few : k ≤ 20) where
       let n = next-bucket t b bs room (r .0) in
       sound-buckets (see t b) bs (n .1) (sound-bucket k i count few t b p (r .0)) (rw (n .0) (r .1))
 
--- a chain starts at 2 ^ k or before
+-- a chain starts at or before 2 ^ k
 pub chained-start : (k i count start : ℕ) (bs : List Bucket) → Chained k i count start bs → start ≤ 2 ^ k
 chained-start k i count start [] e = omega arith
 chained-start k i count start (b ∷ bs) r = omega (arith, r .0 .at, chained-start k i count (b .offset + b .width) bs (r .1))
 
 -- ---- the weight
 
--- the sum of the weights' upper halves
+-- the sum of the weights' upper 16 bits
 abbrev highs : List Bucket → ℕ
 highs [] = 0
 highs (b ∷ bs) = b .weight / 65536 + highs bs
@@ -256,7 +256,7 @@ one-upper (suc j) least h = refl
 
 -- ---- soundness
 
--- what the tests of a level ask
+-- what the tests of a level require
 abbrev Found : ℕ → ℕ → ℕ → Seen → Type 0
 Found k i first t = (first < 2 ^ k) × Passed k i t × (0 < i → t .end ≡ 2 ^ k)
 

@@ -1,4 +1,4 @@
--- What the pass saw gives the weight and the soundness of the buckets.
+-- What the pass collected gives the weight and the soundness of the buckets.
 use Prim.Native.Nat.{_≤_}
 use native.Mathlib.Omega.{arith}
 use lib.ListN.{length, getD}

@@ -1,4 +1,4 @@
--- The two arms are the two cases of the test that the definition makes.
+-- The two branches are the two cases of the test in the definition.
 use borrow.Author.Tests.{le-leb, lt-leb}
 use borrow.Author.Needs.{needs}
 use Rattle.pass.proofs.least.Statement.{statement}

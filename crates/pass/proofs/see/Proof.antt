@@ -1,4 +1,5 @@
--- Invariant: what is seen and then the slots from `at` on come to what all slots do; `rest` starts at slot `at`; two sums stay small.
+-- Invariant: what is collected so far, continued over the slots from `at` on, is what all slots give; `rest` starts at slot `at`; two sums
+-- stay small.
 use mathlib.Core.Path.{_≡_, refl, ap, _∙_}
 use Prim.Native.Nat.{_+_, _-_, _*_, _≤_, _<_}
 use native.Mathlib.Omega.{arith}

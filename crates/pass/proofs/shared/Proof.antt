@@ -1,4 +1,4 @@
--- The two arms are the two cases of the test that the definition makes.
+-- The two branches are the two cases of the test in the definition.
 use borrow.Author.Tests.{eq-eqb, ne-eqb}
 use Rattle.pass.proofs.shared.Statement.{statement}
 use Rattle.pass.proofs.shared.Tie as tie

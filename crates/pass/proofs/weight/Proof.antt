@@ -1,4 +1,4 @@
--- The code computes the definition, in words that its sums do not overflow.
+-- The code computes the definition, and its sums fit 64 bits.
 use borrow.Author.Needs.{needs}
 use Rattle.pass_laws.specs.Pass.{weightSeen}
 use Rattle.pass.proofs.weight.Statement.{statement}

@@ -1,4 +1,5 @@
--- Where the tests of a quick pass by rows hold, the buckets are sound, and none weighs more than the largest that it may have seen. Assumes nothing.
+-- If the tests of the quick pass by rows hold, the buckets are sound, and no weight exceeds the largest that the pass may have seen. Assumes
+-- nothing.
 use mathlib.Core.Bool.{true, _&&_}
 use mathlib.Core.List.{List, _++_}
 use mathlib.Core.Path.{_≡_, refl, sym, ap, _∙_}
@@ -27,7 +28,7 @@ use Rattle.quick_laws.specs.Rows.{opened, rowSlots, row, ending, seam, t
 use Rattle.quick_laws.specs.declared.Quick.{Quick}
 use Rattle.quick_laws.specs.declared.Rows.{Rows}
 
--- the word that has the first bucket's length
+-- the word with the first bucket's width
 first-width : (ws : List ℕ) (c : ℕ) → 0 < c → firstWidth (slots ws 0 c) ≡ getD ws 3 0
 first-width ws zero h = absurd (omega arith)
 first-width ws (suc c) h = refl
@@ -46,7 +47,7 @@ slots-row ws v base at j n c e h four room =
 
 -- ---- the loop over turns
 
--- what it has: some turns were made, and `rest` starts at the slot after them
+-- the invariant: some turns were made, and `rest` starts at the slot after them
 abbrev pub Turning : ℕ → ℕ → List ℕ → ℕ → Rows → List ℕ → ℕ → Type 0
 Turning least most ws count t rest at = ReadRows least most ws count t at × (rest ≡ drop (2 + 3 * at) ws)
 
@@ -58,7 +59,7 @@ module _ (least most : ℕ) (ws : List ℕ) (count : ℕ) where
   pub turns-room : (t : Rows) (rest : List ℕ) (at : ℕ) → Turning least most ws count t rest at → 2 + 3 * count ≤ length ws → at + 16 ≤ count → 48 ≤ length rest
   turns-room t rest at f room more = rw (f .1, length-drop (2 + 3 * at) ws) (omega (arith, room, more))
 
-  -- and are those from slot `at` on
+  -- they are the slots from slot `at` on
   turn-words : (rest : List ℕ) (at n : ℕ) → rest ≡ drop (2 + 3 * at) ws → at ≡ 16 * n → rest ≡ drop (48 * n) (drop 2 ws)
   turn-words rest at n e h =
       e ∙ ap (λ (z : ℕ). drop z ws) {x = 2 + 3 * at} {y = 2 + 48 * n} (omega (arith, h)) ∙ sym (drop-drop (48 * n) 2 ws)
@@ -77,7 +78,7 @@ module _ (least most : ℕ) (ws : List ℕ) (count : ℕ) where
         moved rest ws (2 + 3 * at) 48 (f .1) ∙ ap (λ (z : ℕ). drop z ws) {x = 2 + 3 * at + 48} {y = 2 + 3 * (at + 16)} (omega arith),
       )
 
--- the loop goes on only where sixteen slots are left
+-- the loop goes on only if sixteen slots are left
 pub goes-room : (gap at count : ℕ) → (leb (at + 16) count && eqb gap 0) ≡ true → at + 16 ≤ count
 goes-room gap at count e = leb-true (at + 16) count (both {a = leb (at + 16) count} {b = eqb gap 0} e .0)
 
@@ -98,7 +99,7 @@ module _ (k i count e : ℕ) (few : k ≤ 20) (low : i ≤ 24) (small : leastOf 
   abbrev most : ℕ
   most = mostOf count i
 
-  -- what holds of the slots from slot j on, if they are to start at `start`
+  -- what holds of the slots from slot j on, if they must start at `start`
   abbrev Tail : ℕ → ℕ → Type 0
   Tail start j = Leads start (slots ws j (count - j)) → Held k i count e start (slots ws j (count - j))
 
@@ -129,7 +130,7 @@ module _ (k i count e : ℕ) (few : k ≤ 20) (low : i ≤ 24) (small : leastOf 
 
   -- ---- turns
 
-  -- what the tests ask of all rows
+  -- what the tests require of all rows
   record Fine (t : Rows) : Type 0 where
     one : Enough k e (t .one)
     two : Enough k e (t .two)
@@ -220,7 +221,7 @@ module _ (ws : List ℕ) (count k : ℕ) (few : k ≤ 20) where
   abbrev first : ℕ
   first = getD ws 1 0
 
-  -- level i, of which a quick pass tells enough
+  -- the buckets of level i are sound if the tests of the quick pass hold
   held-sound : (i e : ℕ) → 0 < i → 0 < count → Held k i count e first bs → soundBuckets k i first bs ≡ true
   held-sound zero e upper some h = absurd (omega (arith, upper))
   held-sound (suc j) e upper some h =
@@ -235,7 +236,7 @@ module _ (ws : List ℕ) (count k : ℕ) (few : k ≤ 20) where
       let h = rows-held k i count (r .extra) few low (p .2) (f .3) ws r (p .1) g (f .1) (f .2) in
       (held-sound i (r .extra) (p .0) (p .1) h, rw (length-slots ws 0 count) at (h .1))
 
-  -- so that the sum of the weights is below 2 ^ 32
+  -- so the sum of the weights is below 2 ^ 32
   pub rows-weight : (i : ℕ) (r : Quick) → i ≤ 24 → count ≤ 1024 → tried count i ≡ true → ByRows (leastOf count i) (mostOf count i) ws count r
       → enough k first r ≡ true → weightOf bs % 2 ^ 32 ≡ weightOf bs
   rows-weight i r low few-buckets t g seen =
@@ -251,7 +252,7 @@ module _ (ws : List ℕ) (count k : ℕ) (few : k ≤ 20) where
   enough-fits i total r w low few-buckets t g seen e =
       rw (rows-enough i r low t g seen .0, e ∙ rows-weight i r low few-buckets t g seen)
 
-  -- and yes where F is above 0 and so many of the largest weight that was seen are at most the total
+  -- the answer is yes if F is above 0 and the count times the largest weight seen is at most the total
   pub bounded-fits : (i total : ℕ) (r : Quick) → i ≤ 24 → tried count i ≡ true → ByRows (leastOf count i) (mostOf count i) ws count r
       → enough k first r ≡ true → 0 < first → (leastOf count i + r .extra) * count ≤ total → true ≡ (soundBuckets k i first bs && fits first total (weightOf bs))
   bounded-fits i total r low t g seen past bound =

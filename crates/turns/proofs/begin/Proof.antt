@@ -1,4 +1,4 @@
--- The word before the length is the definition's.
+-- The word before the width is that of the definition.
 use Prim.Native.Nat.{_^_, _<_}
 use native.Mathlib.Omega.{arith}
 use borrow.Author.Needs.{needs}

@@ -1,4 +1,4 @@
--- The turns and then the slots after them are all slots.
+-- The slots of the turns and those after them are all slots.
 use borrow.Author.Needs.{needs}
 use Rattle.quick_laws.specs.RowsLaws.{rows-rest}
 use Rattle.turns.proofs.quick_buckets.Statement.{statement}

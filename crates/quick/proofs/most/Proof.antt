@@ -1,4 +1,4 @@
--- The two arms are the two cases of the test that the definition makes.
+-- The two branches are the two cases of the test in the definition.
 use mathlib.Core.Path.{_≡_}
 use Prim.Native.Nat.{suc, _-_, _*_, _^_}
 use native.Mathlib.Omega.{arith}

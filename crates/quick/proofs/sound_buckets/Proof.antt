@@ -1,4 +1,4 @@
--- Where a quick pass is enough, its bound or the sum of the weights answers; else the other pass decides.
+-- If the tests of the quick pass hold, its bound or the sum of the weights answers; else the exact pass does.
 use native.Mathlib.Omega.{arith}
 use borrow.Author.Needs.{needs}
 use borrow.Author.Tests.{leb-true}

@@ -1,4 +1,4 @@
--- What putting a bucket in, and splitting one, ask of the words and leave. Rests on the laws of one round.
+-- What putting a bucket in, and splitting one, require of the words and leave. Rests on the laws of one round.
 use mathlib.Core.Bool.{cond}
 use mathlib.Core.List.{List, [], _∷_, _++_}
 use mathlib.Core.Path.{_≡_, ap, _∙_}
@@ -26,8 +26,8 @@ pub record Takes (n j : ℕ) (ws : List ℕ) : Type 0 where
   pub inside : j ≤ getD ws 0 0
   pub lowest : 0 < j → getD ws 2 0 < 2 ^ 31
 
--- at slot j of level i the buckets `new` have taken the place of `old`, and the lowest was given up if there was no room; `up` is
--- the slot after the first of the new ones
+-- at slot j of level i the buckets `new` have taken the place of `old`, and the lowest was evicted if there was no room; `up` is the slot
+-- after the first of the new ones
 pub record Becomes (n i j : ℕ) (old new : List Bucket) (ws ws′ : List ℕ) (up : ℕ) : Type 0 where
   pub slot-after : up ≡ cond (ltb (getD ws 0 0) n) (j + 1) j
   pub words : (f : ℕ) (before after : List Bucket) → length before ≡ j → ws ≡ encodeLevel n (levelOf f (before ++ (old ++ after)))
@@ -98,7 +98,7 @@ module _ {n j : ℕ} {ws : List ℕ} (t : Takes n j ws) (i : ℕ) (b : Bucket) w
 
 -- ---- a bucket split
 
--- the words below a slot that is stored stay
+-- the words below the stored slot stay
 putSlot-below : (ws : List ℕ) (at : ℕ) (b : Bucket) (i : ℕ) → i < at → getD (putSlot ws at b) i 0 ≡ getD ws i 0
 unfolding putSlot
 putSlot-below ws at b i h =
@@ -125,7 +125,7 @@ module _ (j : ℕ) (ws : List ℕ) (b : Bucket) {mid : List ℕ} (stored : mid �
   pub stored-count : getD mid 0 0 ≡ getD ws 0 0
   stored-count = stored-below 0 (omega arith)
 
--- the upper half stands in the bucket's place, and the lower one is put in before it
+-- the upper half stands in the bucket's place, and the lower half is put in before it
 pub split-becomes : {n i j half weight : ℕ} {ws mid ws′ : List ℕ} {up : ℕ} → half ≡ slot ws j .width / 2 → weight ≡ 2 ^ i
     → mid ≡ putSlot ws (slotStart j) (bucketOf (slot ws j .offset + half) half weight)
     → Becomes n i j [] (bucketOf (slot ws j .offset) half weight ∷ []) mid ws′ up → Becomes n i j (slot ws j ∷ []) (halves i (slot ws j)) ws ws′ up

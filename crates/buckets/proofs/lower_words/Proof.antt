@@ -1,4 +1,4 @@
--- After each turn the lowest i of the m words stand one slot below: from the bottom up no word is read once it was written over.
+-- Invariant: the lowest i of the m words stand one slot below. Going up, no word is read after it was overwritten.
 use mathlib.Core.Path.{_≡_, refl, ap, _∙_}
 use Prim.Native.Nat.{_-_, _≤_}
 use native.Mathlib.Omega.{arith}

@@ -1,4 +1,4 @@
--- After each turn all but the lowest i of the m words stand one slot above: from the top down no word is read once it was written over.
+-- Invariant: all but the lowest i of the m words stand one slot above. Going down, no word is read after it was overwritten.
 use mathlib.Core.Path.{_≡_, refl, ap, _∙_}
 use Prim.Native.Nat.{_+_, _-_, _≤_}
 use native.Mathlib.Omega.{arith}

@@ -1,4 +1,4 @@
--- Each arm goes by one of the two tests.
+-- Each branch makes one of the two tests.
 use mathlib.Core.Path.{sym}
 use mathlib.Core.Bool.{true≢false}
 use Prim.Native.Nat.{_+_, _*_}

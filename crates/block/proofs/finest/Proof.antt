@@ -1,4 +1,4 @@
--- The levels passed start past the offset, so the first that does not is the one that serves; the last has given nothing up.
+-- The levels before have F above the offset, so the first that has not is the one that serves; the last has evicted nothing.
 use mathlib.Core.Path.{_≡_, sym, ap}
 use Prim.Native.Nat.{_+_, _-_, _≤_}
 use native.Mathlib.Omega.{arith}

@@ -1,4 +1,4 @@
--- A total is a word, so that its sum with the volume fits the wider type.
+-- A total is a word, so its sum with the volume fits 64 bits.
 use Prim.Native.Nat.{_%_}
 use native.Mathlib.Omega.{arith}
 use borrow.Author.Needs.{needs}

@@ -1,4 +1,4 @@
--- The sum from the serving level, and the current half's total where the window opens in another interval.
+-- The answer is the sum from the serving level, plus the current half's total if the window opens in another interval.
 use mathlib.Core.Path.{_≡_, sym, ap, _∙_}
 use Prim.Native.Nat.{ℕ, _%_, _^_, _≤_}
 use native.Mathlib.Omega.{arith}
@@ -12,7 +12,7 @@ use Rattle.block.specs.Steps.{levelAt, index-serves, count-few, total-sm
 use Rattle.block.proofs.sum.Statement.{statement}
 use Rattle.block.proofs.sum.Tie as tie
 
--- the level found is one of the half's, and the one that serves
+-- the level found is one of the half, and it serves
 found : (c : tie.After-finest) →
     let p = c .before in
     let a = p .before .before .before .before .before .args in

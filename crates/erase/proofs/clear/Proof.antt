@@ -1,4 +1,4 @@
--- Both halves emptied, one after the other, are the empty block.
+-- Emptying both halves, one after the other, leaves the empty block.
 use mathlib.Core.Path.{ap, _∙_}
 use native.Mathlib.Omega.{arith}
 use borrow.Author.Needs.{needs}

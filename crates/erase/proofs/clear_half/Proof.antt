@@ -1,4 +1,4 @@
--- Each turn of the loop has written one more level.
+-- Invariant: after each turn one more level is written.
 use mathlib.Core.Path.{_≡_, refl, ap, _∙_}
 use Prim.Native.Nat.{suc, _-_, _≤_}
 use native.Mathlib.Numerals.{add-one}

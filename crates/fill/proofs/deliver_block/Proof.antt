@@ -1,4 +1,4 @@
--- The half and the offset are those of the stamp.
+-- The parity and the offset are those of the stamp.
 use borrow.Author.Needs.{needs}
 use mathlib.Core.Path.{ap, _∙_}
 use Prim.Native.Nat.{ℕ, _%_}

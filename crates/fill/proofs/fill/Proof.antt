@@ -1,4 +1,4 @@
--- After each turn one level more has the volume, and the next is as it was.
+-- Invariant: after each turn one more level has the volume, and the next is as it was.
 use borrow.Author.Needs.{needs}
 use mathlib.Core.Path.{_≡_, refl, ap, _∙_}
 use mathlib.Core.List.{List}

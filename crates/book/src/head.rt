@@ -1,4 +1,4 @@
-// The head of a book: its shape and its clock, or why the call is refused.
+// The head of a book: its shape and its clock, or why the call is refused. SPECIFICATION 3.2 and 7.1.
 use model::Refusal;
 use shape::Checked;
 use shape::HEAD_LEN;
@@ -10,10 +10,10 @@ ghost use Rattle.shape.specs.Layout.{headLen};
 ghost use Rattle.book.specs.Judgement.{openedOf, judgement, openedNumber};
 ghost use Rattle.book.specs.Head.{Shaped, isBlank};
 
-// The clock goes no further.
+// The largest clock.
 pub const MAX_CLOCK: u32 = 2000000000;
 
-// What the first words of a book tell, or judging a call: the shape and the clock of the book, or the refusal.
+// What opening a book, or judging a call, answers: the shape and the clock of the book, or the refusal.
 pub enum Opened {
     Book { shape: Shape, clock: u32 },
     Refused(Refusal),
@@ -33,7 +33,7 @@ fn is_blank(book: &[u32]) -> bool
     book[7] == 0
 }
 
-// A book of this shape: its clock, the last words of its head and its length are looked at.
+// A book of this shape: tests its clock, the last words of its head and its length.
 fn with_shape(book: &[u32], shape: Shape) -> Opened
     requires { ⌜ Shaped (now book) shape ⌝ }
     ensures { λ r. ⌜ openedOf r ≡ judgement (openedNumber (now (book .entry))) (now (book .entry)) ⌝ }
@@ -53,7 +53,7 @@ fn with_shape(book: &[u32], shape: Shape) -> Opened
     }
 }
 
-// Words of any length and content.
+// Opens words of any length and content.
 pub fn open(book: &[u32]) -> Opened
     ensures { λ r. ⌜ openedOf r ≡ judgement (openedNumber (now (book .entry))) (now (book .entry)) ⌝ }
 {

@@ -1,4 +1,4 @@
--- The constructor tells whether the shape is within its limits; the rest is `with_shape`.
+-- The constructor says whether the shape is within its limits; the rest is `with_shape`.
 use native.Mathlib.Omega.{arith}
 use borrow.Author.Needs.{needs}
 use mathlib.Core.Path.{sym, ap, _∙_}

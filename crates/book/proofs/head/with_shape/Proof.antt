@@ -1,4 +1,4 @@
--- Each return follows from the first of the head's conditions, or the length, that failed.
+-- Each return follows from the first of the head's conditions, or the length, that fails.
 use borrow.Author.Needs.{needs}
 use mathlib.Core.Bool.{cond, not}
 use mathlib.Core.Path.{_≡_, refl, _∙_}
@@ -12,7 +12,7 @@ use Rattle.book.specs.Head.{told-judgement, opened-ahead, opened-rest}
 use Rattle.book.proofs.head.with_shape.Statement.{statement}
 use Rattle.book.proofs.head.with_shape.Tie as tie
 
--- what is left to tell, by what was asked of the words
+-- what is left to prove, by the tests of the words
 told : (c : tie.After-book-len) → let a = c .before .before .before .before .args in clockOf (a .book .now) ≤ maxClock
     → openedNumber (a .book .now) ≡ cond (not (c .before .is-blank .result)) 7 (cond (not (eqb (length (a .book .now)) (c .book-len .result))) 2 0)
 told c early = opened-rest _ (c .before .before .before .before .pre) early ∙ rw (c .before .is-blank .ensures, c .book-len .ensures)

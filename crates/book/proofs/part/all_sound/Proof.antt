@@ -1,4 +1,4 @@
--- What is left of the test at each grade, with what was seen, is the whole test.
+-- Invariant: the tests made so far and those that are left at each grade are the whole test.
 use borrow.Author.Needs.{needs}
 use borrow.Author.Tests.{not-true, not-false}
 use mathlib.Core.Bool.{Bool}

@@ -1,4 +1,4 @@
--- What the loops over the grades are asked and leave. Rests on the laws of a swept book.
+-- What the loops over the grades require and leave. Rests on the laws of a swept book.
 use mathlib.Core.Bool.{true}
 use mathlib.Core.Path.{_≡_}
 use mathlib.Core.List.{List}

@@ -8,7 +8,7 @@ ghost use Rattle.shape.specs.Layout.{headLen};
 ghost use Rattle.model.specs.Words.{encodeHead};
 ghost use Rattle.sweep.specs.Head.{headWords};
 
-// Writes the words of a head; the blocks stay.
+// Writes the words of a head. The blocks stay.
 fn store_head(book: &mut [u32], k: u32, n: u32, m: u32, g: u32, clock: u32)
     requires { ⌜ headLen ≤ length (now book) ⌝ }
     ensures { λ _. ⌜ now (book .exit) ≡ headWords k n m g clock ++ drop headLen (now (book .entry)) ⌝ }
@@ -23,7 +23,7 @@ fn store_head(book: &mut [u32], k: u32, n: u32, m: u32, g: u32, clock: u32)
     book[7] = 0;
 }
 
-// Writes the head of a shape; the blocks stay.
+// Writes the head of a shape. The blocks stay.
 pub fn write_head(book: &mut [u32], shape: Shape, clock: u32)
     requires { ⌜ headLen ≤ length (now book) ⌝ }
     ensures { λ _. ⌜ now (book .exit) ≡ encodeHead shape clock ++ drop headLen (now (book .entry)) ⌝ }

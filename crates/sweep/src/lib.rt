@@ -1,4 +1,4 @@
-// What a call writes to a whole book: the head, and every block from grade 0 on, one part of the words after the other.
+// Writing a whole book: the head, and every block from grade 0 on, one part of the words after the other.
 mod head;
 
 pub use head::write_head;

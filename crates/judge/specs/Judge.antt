@@ -1,5 +1,5 @@
--- What judging a call tells: the first of its refusals, or the shape and the clock of the book; and the refusals of each call once the
--- head is known to be sound. Assumes nothing.
+-- What judging a call answers: the first of its refusals, or the shape and the clock of the book; and which refusals of each call are left
+-- once the head is known to be sound. Assumes nothing.
 use mathlib.Core.Bool.{Bool, true, false, cond, not, _||_}
 use mathlib.Core.Path.{_≡_, refl, sym, ap, _∙_}
 use mathlib.Core.List.{List, _++_}
@@ -33,7 +33,7 @@ pub record Open (ws : List ℕ) (s : Shape) (clock : ℕ) : Type 0 where
   pub same : s ≡ shapeOf ws
   pub now : clock ≡ clockOf ws
 
--- an open book and a delivery that 3, 4, 8 and 9 do not refuse
+-- an open book, and a delivery that 3, 4, 8 and 9 do not refuse
 pub record Due (ws : List ℕ) (s : Shape) (clock grade stamp volume : ℕ) : Type 0 where
   pub book : Open ws s clock
   pub inside : grade < s .g
@@ -41,7 +41,7 @@ pub record Due (ws : List ℕ) (s : Shape) (clock grade stamp volume : ℕ) : Ty
   pub come : stamp ≤ clock
   pub early : clock ≤ stamp + 2 ^ s .k
 
--- ---- the refusals that every call but make begins with
+-- ---- the refusals with which every call but make begins
 
 module _ (v : View) (rest : List (Bool × ℕ)) where
   stops : (z : ℕ) → (z ≡ 0 → ⊥) → firstOf (opened v) ≡ z → firstOf (opened v ++ rest) ≡ z
@@ -71,17 +71,17 @@ module _ (v : View) (rest : List (Bool × ℕ)) where
       go false false true h = h
       go false false false h = refl
 
--- which of 11 and 12 refuses a delivery
+-- which of 11 and 12 refuses a delivery, or 0
 abbrev pub roomRefusal : Shape → List ℕ → ℕ → ℕ → ℕ → ℕ
 roomRefusal s ws grade stamp volume =
     cond (not (soundBlock s (blockPart s grade ws))) 11
     (cond (ltb (2 ^ s .m) (halfOf (interval s stamp) (decodeBlock s (blockPart s grade ws)) .total + volume)) 12 0)
 
--- a call that begins like the others
+-- a call that begins with these refusals
 abbrev pub Begins : Call → Type 0
 Begins = ByCall ⊥ (Unit {0}) (λ _. Unit {0}) (λ _ _. Unit {0})
 
--- the refusals of such a call after those that it begins with
+-- the refusals of such a call after these
 abbrev pub restOf : View → Call → List (Bool × ℕ)
 restOf v call = drop 3 (refusals v call)
 
@@ -92,7 +92,7 @@ begins v (Clock clock) b = refl
 begins v (Delivery grade stamp volume) b = refl
 begins v (Query grade window) b = refl
 
--- a refusal at the head is the refusal of the call
+-- a refusal of the head is the refusal of the call
 pub head-judges : (ws : List ℕ) (r : Refusal) → openedNumber ws ≡ numberOf r → (call : Call) → Begins call → firstRefusal ws call ≡ numberOf r
 unfolding openedNumber
 head-judges ws r h call b =
@@ -125,7 +125,7 @@ module _ (ws : List ℕ) (s : Shape) (clock : ℕ) (o : Open ws s clock) where
       ap firstOf (begins (bookView ws) call b) ∙ passes (bookView ws) (restOf (bookView ws) call) (o .number)
       ∙ ap (λ (v : View). firstOf (restOf v call)) view-is
 
-  -- ---- the refusals of each call that are left, by their tests
+  -- ---- the refusals of each call that are left, as tests
 
   pub clock-judges : (to : ℕ) → firstRefusal ws (Clock to)
       ≡ cond (ltb maxClock to) 6 (cond (ltb to clock) 10 (cond (not (allFrom (λ grade. soundBlock s (blockPart s grade ws)) 0 (s .g))) 11 0))
@@ -152,7 +152,7 @@ module _ (ws : List ℕ) (s : Shape) (clock : ℕ) (o : Open ws s clock) where
     pub open-whole : soundBlock s (blockPart s grade ws) ≡ true → Whole s (blockPart s grade ws)
     open-whole sound = record { proper = open-proper; size = length-blockPart s grade h ws open-size; sound = sound }
 
--- a delivery that 3, 4, 8 and 9 do not refuse is of a grade of the book, and 11 and 12 are left
+-- a delivery that 3, 4, 8 and 9 do not refuse is of a grade of the book; 11 and 12 are left
 module _ {ws : List ℕ} {s : Shape} {clock grade stamp volume : ℕ} (d : Due ws s clock grade stamp volume) where
   pub due-inside : InBook s grade ws
   due-inside = open-inside ws s clock (d .book) grade (d .inside)
@@ -162,7 +162,7 @@ module _ {ws : List ℕ} {s : Shape} {clock grade stamp volume : ℕ} (d : Due w
       delivery-judges ws s clock (d .book) grade stamp volume
       ∙ rw (lt-ltb grade (s .g) (d .inside), d .fair, le-ltb clock stamp (d .come), le-ltb (stamp + 2 ^ s .k) clock (d .early))
 
--- an accepted call found the book open
+-- if a call is accepted, the book is open
 pub judges-open : (ws : List ℕ) (s : Shape) (clock : ℕ) (call : Call) → Begins call → Told (firstRefusal ws call) ws (Book s clock) → Open ws s clock
 unfolding openedNumber
 judges-open ws s clock call b j = record {

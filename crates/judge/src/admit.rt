@@ -1,4 +1,4 @@
-// Judging a delivery on a book whose head is sound: the refusals that are left, in document 01's order.
+// Judging a delivery on a book whose head is sound: the refusals that are left, in the order of SPECIFICATION 6.3.
 use book::Opened;
 use book::block_full;
 use book::block_sound;
@@ -11,7 +11,7 @@ ghost use Rattle.model.specs.declared.Call.the-variants as Call;
 ghost use Rattle.book.specs.Judgement.{openedOf, judgement, firstRefusal};
 ghost use Rattle.judge.specs.Judge.{Open, Due};
 
-// A volume is at most this.
+// The largest volume.
 const MAX_VOLUME: u32 = 65535;
 
 // Whether a volume is outside its limits.
@@ -40,7 +40,7 @@ fn judge_room(book: &[u32], s: Shape, clock: u32, grade: u32, stamp: u32, volume
     Opened::Book { shape: s, clock }
 }
 
-// 3, 4, 8 and 9, by the numbers alone; only then is the block read.
+// 3, 4, 8 and 9, by the numbers alone. Only then is the block read.
 pub fn judge_delivery_in(
     book: &[u32],
     s: Shape,

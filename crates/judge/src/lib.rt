@@ -1,4 +1,4 @@
-// Judging a call on a book: its refusals in document 01's order, before a word is written.
+// Judging a call on a book: its refusals in the order of SPECIFICATION 6.3, before a word is written.
 mod admit;
 
 use admit::judge_delivery_in;

@@ -1,4 +1,4 @@
--- A refusal at the head is the refusal of the call; else the head is open.
+-- A refusal of the head is the refusal of the call; otherwise the book is open.
 use borrow.Author.Needs.{needs}
 use mathlib.Core.Path.{ap, sym, _∙_}
 use Rattle.model.specs.declared.Call.the-variants.{Clock}

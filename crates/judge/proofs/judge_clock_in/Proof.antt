@@ -10,7 +10,7 @@ use Rattle.judge.specs.Judge.{clock-judges, open-size, open-proper}
 use Rattle.judge.proofs.judge_clock_in.Statement.{statement}
 use Rattle.judge.proofs.judge_clock_in.Tie as tie
 
--- the refusals that are left, by what was asked of the blocks
+-- the refusals that are left, by the test of the blocks
 told : (c : tie.After-all-sound) → let a = c .before .before .before .before .args in
     firstRefusal (a .book .now) (Clock (a .to)) ≡ cond (ltb maxClock (a .to)) 6 (cond (ltb (a .to) (a .clock)) 10 (cond (not (c .all-sound .result)) 11 0))
 told c =

@@ -14,7 +14,7 @@ use Rattle.judge.specs.Judge.{query-judges, open-proper, open-inside}
 use Rattle.judge.proofs.judge_query_in.Statement.{statement}
 use Rattle.judge.proofs.judge_query_in.Tie as tie
 
--- the refusals that are left, by the widest window
+-- the refusals that are left, by the longest window
 told : (c : tie.After-power) → let a = c .before .before .before .args in
     firstRefusal (a .book .now) (Query (a .grade) (a .window)) ≡ cond (not (ltb (a .grade) (a .s .g))) 3
     (cond (ltb (c .power .result) (a .window)) 5 (cond (not (soundBlock (a .s) (blockPart (a .s) (a .grade) (a .book .now)))) 11 0))
@@ -22,7 +22,7 @@ told c =
     let d = c .before .before .before in
     query-judges (d .args .book .now) (d .args .s) (d .args .clock) (d .pre) (d .args .grade) (d .args .window) ∙ rw (c .power .ensures)
 
--- and by what was asked of the block
+-- and by the test of the block
 asked : (c : tie.After-block-sound) → let p = c .before .before .before in let a = p .before .before .before .args in
     firstRefusal (a .book .now) (Query (a .grade) (a .window)) ≡ cond (not (ltb (a .grade) (a .s .g))) 3
     (cond (ltb (p .power .result) (a .window)) 5 (cond (not (c .block-sound .result)) 11 0))

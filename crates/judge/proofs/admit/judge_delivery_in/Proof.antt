@@ -15,7 +15,7 @@ use Rattle.judge.specs.Judge.{roomRefusal, delivery-judges, open-proper,
 use Rattle.judge.proofs.admit.judge_delivery_in.Statement.{statement}
 use Rattle.judge.proofs.admit.judge_delivery_in.Tie as tie
 
--- the refusals that are left, by what was asked of the volume
+-- the refusals that are left, by the test of the volume
 told : (c : tie.After-is-outside) → let a = c .before .before .before .args in
     firstRefusal (a .book .now) (Delivery (a .grade) (a .stamp) (a .volume)) ≡ cond (not (ltb (a .grade) (a .s .g))) 3 (cond (c .is-outside .result) 4
     (cond (ltb (a .clock) (a .stamp)) 8 (cond (late (a .s) (a .clock) (a .stamp)) 9 (roomRefusal (a .s) (a .book .now) (a .grade) (a .stamp) (a .volume)))))

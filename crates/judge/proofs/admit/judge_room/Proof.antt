@@ -8,7 +8,7 @@ use Rattle.judge.specs.Judge.{due-judges, due-inside}
 use Rattle.judge.proofs.admit.judge_room.Statement.{statement}
 use Rattle.judge.proofs.admit.judge_room.Tie as tie
 
--- the refusals that are left, by what was asked of the block
+-- the refusals that are left, by the tests of the block
 room : (c : tie.After-block-full) → let a = c .before .before .before .args in
     firstRefusal (a .book .now) (Delivery (a .grade) (a .stamp) (a .volume)) ≡ cond (not (c .before .block-sound .result)) 11 (cond (c .block-full .result) 12 0)
 room c = due-judges (c .before .before .before .pre) ∙ rw (c .before .block-sound .ensures, c .block-full .ensures)

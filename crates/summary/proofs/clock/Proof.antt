@@ -1,4 +1,4 @@
--- A refused call leaves every word; else the judged book is open.
+-- A refused call changes no word; otherwise the book is open.
 use borrow.Author.Needs.{needs}
 use mathlib.Core.Path.{ap, sym, _∙_}
 use Rattle.model.specs.declared.Call.the-variants.{Clock}

@@ -1,4 +1,4 @@
--- The block of the grade alone is handed on, and comes back with the delivery.
+-- Only the block of the grade is handed on, and it comes back with the delivery.
 use native.Mathlib.Omega.{arith}
 use borrow.Author.Needs.{needs}
 use borrow.Rule.Slice.PartMut.{post-is}

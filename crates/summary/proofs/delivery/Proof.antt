@@ -1,4 +1,4 @@
--- A refused call leaves every word; else the judged book takes the delivery.
+-- A refused call changes no word; otherwise the book takes the delivery.
 use borrow.Author.Needs.{needs}
 use mathlib.Core.Path.{ap, sym, _∙_}
 use Rattle.model.specs.declared.Call.the-variants.{Delivery}

@@ -1,4 +1,4 @@
--- A refused question answers its number; else the judged book is open.
+-- A refused question answers its number; otherwise the book is open.
 use borrow.Author.Needs.{needs}
 use mathlib.Core.Path.{ap, sym, _∙_}
 use Rattle.model.specs.declared.Call.the-variants.{Query}

@@ -1,4 +1,4 @@
--- One level of a block as the code reads it, and the loops over levels one turn at a time. Assumes nothing.
+-- One level of a block as the code reads it, and the loops over levels, one turn at a time. Assumes nothing.
 use mathlib.Core.Bool.{Bool, true, false, cond, _&&_}
 use mathlib.Core.List.{List, _∷_}
 use mathlib.Core.Path.{_≡_, ap, _∙_}
@@ -26,17 +26,17 @@ use Rattle.laws.specs.BlockWords.{levelStart-fits}
 use Rattle.laws.specs.Halves.{halfOf-decode, total-decode, whole-total, whole-level}
 use Rattle.laws.specs.Proper.{Sized, Whole}
 
--- level i of the half of a parity has its place in the words of a block
+-- the words of a block have room for level i, in the half of a parity
 pub record LevelIn (s : Shape) (parity i : ℕ) (ws : List ℕ) : Type 0 where
   pub sized : Sized s ws
   pub half : parity ≤ 1
   pub index : i ≤ s .last
 
--- its part ends within the words, of which there are few
+-- the level ends within the words, and they are fewer than 2 ^ 29
 pub level-within : {s : Shape} {parity i : ℕ} {ws : List ℕ} → LevelIn s parity i ws → (levelStart s parity i + levelWords s ≤ length ws) × (length ws < 2 ^ 29)
 level-within {s} {parity} {i} w = omega (arith, levelStart-fits s parity i (w .half) (w .index), blockWords-bits s (omega arith) (omega arith))
 
--- level i of the half of a parity
+-- level i, in the half of a parity
 abbrev pub levelAt : Shape → ℕ → List ℕ → ℕ → Level
 levelAt s parity ws i = decodeLevel (levelPart s parity i ws)
 
@@ -48,7 +48,7 @@ levelsFrom s parity ws i = upFrom (levelAt s parity ws) i (suc (s .last) - i)
 abbrev pub soundAt : Shape → ℕ → List ℕ → ℕ → Bool
 soundAt s parity ws i = soundLevel s i (getD ws (totalStart parity) 0) (levelPart s parity i ws)
 
--- whether the levels from level i on are
+-- whether the levels from level i on are sound
 abbrev pub soundFrom : Shape → ℕ → List ℕ → ℕ → Bool
 soundFrom s parity ws i = allFrom (soundAt s parity ws) i (suc (s .last) - i)
 
@@ -63,7 +63,7 @@ module _ (s : Shape) (parity : ℕ) (ws : List ℕ) (i : ℕ) where
     pub soundFrom-step : soundFrom s parity ws i ≡ (soundAt s parity ws i && soundFrom s parity ws (i + 1))
     soundFrom-step = ap (allFrom (soundAt s parity ws) i) count ∙ rw (← add-one i)
 
-    -- the level serves what lies at its first kept offset or above, and leaves what lies below to the next
+    -- a level serves offsets from its F on, and leaves those below to the next level
     pub index-here : (a : ℕ) → levelAt s parity ws i .first ≤ a → servingIndex a (levelsFrom s parity ws i) ≡ 0
     index-here a h = rw (levelsFrom-step, le-leb (levelAt s parity ws i .first) a h)
 
@@ -84,13 +84,13 @@ module _ (s : Shape) (parity : ℕ) (ws : List ℕ) where
   unfolding soundHalf
   soundFrom-all h = rw (le-leb (getD ws (totalStart parity) 0) (2 ^ s .m) h, sub-zero)
 
-  -- a half that holds too much
+  -- a half with too large a total is unsound
   pub soundHalf-over : 2 ^ s .m < getD ws (totalStart parity) 0 → false ≡ soundHalf s parity ws
   unfolding soundHalf
   soundHalf-over h = rw (lt-leb (getD ws (totalStart parity) 0) (2 ^ s .m) h)
 
 module _ (s : Shape) (ws : List ℕ) (w : Whole s ws) (parity : ℕ) (p : parity ≤ 1) where
-  -- the count of a level fits
+  -- the count of a level is at most n
   pub count-few : (i : ℕ) → i ≤ s .last → getD (levelPart s parity i ws) 0 0 ≤ s .n
   unfolding decodeLevel
   count-few i low =
@@ -106,7 +106,7 @@ module _ (s : Shape) (ws : List ℕ) (w : Whole s ws) (parity : ℕ) (p : parity
       let bs = levelAt s parity ws i .buckets in
       omega (arith, whole-level s ws w parity p i low .within, total-small, sumFrom-falls bs 0 a (omega arith), sumFrom-zero bs)
 
-  -- the last level has given nothing up, so it serves every offset
+  -- the last level has evicted nothing, so it serves every offset
   last-first : levelAt s parity ws (s .last) .first ≡ 0
   last-first =
       let same = ap (λ (z : ℕ). 2 ^ z) (w .proper .last) in
@@ -117,7 +117,7 @@ module _ (s : Shape) (ws : List ℕ) (w : Whole s ws) (parity : ℕ) (p : parity
   pub last-index : (a : ℕ) → servingIndex a (levelsFrom s parity ws (s .last)) ≡ 0
   last-index a = index-here s parity ws (s .last) (omega arith) a (omega (arith, last-first))
 
-  -- the level of the serving index is one of the half's, and the one that serves
+  -- the serving index is that of a level of the half, and this level serves
   pub index-serves : (a : ℕ) → let levels = decodeHalf s parity ws .levels in
       (servingIndex a levels ≤ s .last) × (levelAt s parity ws (servingIndex a levels) ≡ serving a levels)
   unfolding decodeHalf

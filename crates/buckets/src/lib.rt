@@ -1,4 +1,4 @@
-// Putting buckets into the slots of one level, and splitting them: where there is no room the lowest is given up.
+// Putting buckets into the slots of one level, and splitting them. If there is no room, the lowest bucket is evicted.
 use shape::LEVEL_HEAD_LEN;
 use shape::SLOT_LEN;
 use words::long;
@@ -17,7 +17,7 @@ ghost use Rattle.laws.specs.Buckets.{halves};
 ghost use Rattle.laws.specs.Moves.{raise, lower, putSlot};
 ghost use Rattle.buckets.specs.Steps.{Takes, Becomes};
 
-// Writes m words from `from` on again one slot above.
+// Moves m words, from `from` on, up by one slot.
 fn raise_words(level: &mut [u32], from: usize, m: usize)
     requires { ⌜ from + slotLen + m ≤ length (now level) ⌝ }
     ensures { λ _. ⌜ now (level .exit) ≡ raise (now (level .entry)) from m ⌝ }
@@ -30,7 +30,7 @@ fn raise_words(level: &mut [u32], from: usize, m: usize)
     }
 }
 
-// Writes m words from the slot above `from` on again one slot below.
+// Moves m words, from the slot after `from` on, down by one slot.
 fn lower_words(level: &mut [u32], from: usize, m: usize)
     requires { ⌜ from + slotLen + m ≤ length (now level) ⌝ }
     ensures { λ _. ⌜ now (level .exit) ≡ lower (now (level .entry)) from m ⌝ }
@@ -53,7 +53,7 @@ fn put_slot(level: &mut [u32], at: usize, offset: u32, width: u32, weight: u32)
     level[at + 2] = weight;
 }
 
-// The bucket of slot j gains v.
+// The weight of the bucket in slot j grows by v.
 pub fn gain(level: &mut [u32], j: usize, v: u64)
     requires { ⌜ (slotStart (j + 1) ≤ length (now level)) × (slot (now level) j .weight + v < 2 ^ 32) ⌝ }
     ensures { λ _. ⌜ now (level .exit) ≡ set (now (level .entry)) (slotStart j + 2) (slot (now (level .entry)) j .weight + v) ⌝ }
@@ -63,7 +63,7 @@ pub fn gain(level: &mut [u32], j: usize, v: u64)
     level[at + 2] = (weight + v) as u32;
 }
 
-// Puts a bucket in at slot j of `count`: the slots from j on move one up.
+// Puts a bucket into slot j of `count` slots: the slots from j on move up by one.
 fn put_in(level: &mut [u32], j: usize, count: usize, offset: u32, width: u32, weight: u32)
     requires { ⌜ (j ≤ count) × (slotStart (count + 1) ≤ length (now level)) × (count < 1024) ⌝ }
     ensures { λ _. ⌜ now (level .exit)
@@ -75,7 +75,7 @@ fn put_in(level: &mut [u32], j: usize, count: usize, offset: u32, width: u32, we
     level[0] = (count + 1) as u32;
 }
 
-// Takes the lowest bucket out and puts another in at slot j: the slots up to j move one down.
+// Drops the lowest bucket and puts another into slot j: the slots up to j move down by one.
 fn shift_in(level: &mut [u32], j: usize, offset: u32, width: u32, weight: u32)
     requires { ⌜ slotStart (j + 1) ≤ length (now level) ⌝ }
     ensures { λ _. ⌜ now (level .exit) ≡ putSlot (lower (now (level .entry)) levelHeadLen (slotLen * j)) (slotStart j) (bucketOf offset width weight) ⌝ }
@@ -84,7 +84,7 @@ fn shift_in(level: &mut [u32], j: usize, offset: u32, width: u32, weight: u32)
     put_slot(level, LEVEL_HEAD_LEN + SLOT_LEN * j, offset, width, weight);
 }
 
-// F once the lowest bucket of level i, at `offset`, is given up, where the next one stands at `next`.
+// F after the lowest bucket of level i was evicted: it was at `offset`, and the next one is at `next`.
 fn first_after(i: u8, offset: u32, next: u32) -> u32
     requires { ⌜ offset < 2 ^ 31 ⌝ }
     ensures { λ r. ⌜ r ≡ cond (eqb i 0) (offset + 1) next ⌝ }
@@ -92,8 +92,8 @@ fn first_after(i: u8, offset: u32, next: u32) -> u32
     if i == 0 { offset + 1 } else { next }
 }
 
-// Puts a bucket in at slot j of level i. Where there is no room the lowest is given up, which may be the new one itself. Returns the
-// slot after the new one's.
+// Puts a bucket into slot j of level i. If there is no room the lowest bucket is evicted, which may be the new one itself. Returns the slot
+// after the new one's.
 pub fn put_at(
     level: &mut [u32],
     n: usize,
@@ -121,8 +121,8 @@ pub fn put_at(
     j
 }
 
-// Makes the bucket of slot j two halves at level i. Where there is no room the lowest bucket is given up, which may be the lower
-// half. Returns the upper half's slot.
+// Splits the bucket of slot j of level i. If there is no room the lowest bucket is evicted, which may be the lower half. Returns the upper
+// half's slot.
 pub fn split_at(level: &mut [u32], n: usize, i: u8, j: usize, half: u32) -> usize
     requires { ⌜ Takes n j (now level) × (j < getD (now level) 0 0) × (half ≡ slot (now level) j .width / 2) × (slot (now level) j .offset + half < 2 ^ 31) × (i ≤ 31) ⌝ }
     ensures { λ r. ⌜ Becomes n i j (slot (now (level .entry)) j ∷ []) (halves i (slot (now (level .entry)) j)) (now (level .entry)) (now (level .exit)) r ⌝ }

@@ -14,13 +14,13 @@ use Rattle.model.specs.Level.{emptyLevel}
 abbrev pub zeroed : ℕ → List ℕ → List ℕ
 zeroed at ws = replicate at 0 ++ drop at ws
 
--- one more
+-- one word more
 pub zeroed-step : (at : ℕ) (ws : List ℕ) → at < length ws → set (zeroed at ws) at 0 ≡ zeroed (at + 1) ws
 zeroed-step at ws h =
     rw (drop-cons ws at 0 h, set-at (replicate at 0) (getD ws at 0) (drop (suc at) ws) 0 at (length-replicate at 0), ← replicate-append-replicate {A = ℕ} at 1 0, add-one at)
     (sym (append-assoc (replicate at 0) (replicate 1 0) (drop (suc at) ws)))
 
--- all of them
+-- all words
 pub zeroed-all : (at : ℕ) (ws : List ℕ) → at ≤ length ws → length ws ≤ at → zeroed at ws ≡ replicate (length ws) 0
 zeroed-all at ws low high =
     let all : at ≡ length ws = omega arith in
@@ -31,7 +31,7 @@ pub empty-lowest : (n k : ℕ) → replicate (slotStart n) 0 ≡ encodeLevel n (
 unfolding encodeLevel
 empty-lowest n k = ap (λ (z : ℕ). replicate z 0) {x = slotStart n} {y = suc (suc (slotLen * (n - 0)))} (omega arith)
 
--- the others have one bucket, the whole interval
+-- each other level has one bucket, over the whole interval
 pub empty-upper : (n k i : ℕ) → 1 ≤ n → 0 < i → set (set (replicate (slotStart n) 0) 0 1) 3 (2 ^ k) ≡ encodeLevel n (emptyLevel k i)
 unfolding encodeLevel
 empty-upper n k zero some h = absurd (omega arith)

@@ -1,5 +1,5 @@
--- What a sound level that is open to a delivery gives the code: below F nothing changes; at level 0 the slot found is that of the
--- offset or the one before which it is to stand; at the others its bucket covers the offset. Rests on soundness as facts.
+-- What a sound level with room for a delivery gives the code. Below F nothing changes. At level 0 the slot found has the bucket of the
+-- offset, or a new bucket must stand before it. At the other levels its bucket spans the offset. Rests on soundness as facts.
 use mathlib.Core.Bool.{Bool, true, false}
 use mathlib.Core.List.{List, [], _∷_, _++_}
 use mathlib.Core.Logic.{⊎-elim}
@@ -40,11 +40,11 @@ module _ {s : Shape} {i x v : ℕ} {ws : List ℕ} (o : Open s i x v ws) where
   unfolding decodeLevel
   few = omega (arith, sound .few, length-slots ws 0 (getD ws 0 0))
 
-  -- what the search asks of a level
+  -- what the search requires of a level
   pub searchable : (slotStart (getD ws 0 0) ≤ length ws) × EndsRise 0 (decodeLevel ws .buckets)
   searchable = (omega (arith, few, o .size), sound-rises (s .k) i (decodeLevel ws .first) (decodeLevel ws .buckets) (sound .parts))
 
-  -- x stands below F
+  -- x is below F
   pub below : x < getD ws 1 0 → ws ≡ encodeLevel (s .n) (insert (s .n) i x v (decodeLevel ws))
   unfolding decodeLevel
   below h = held ∙ ap (encodeLevel (s .n)) (sym (insert-below (s .n) i x v (decodeLevel ws) h))
@@ -52,11 +52,11 @@ module _ {s : Shape} {i x v : ℕ} {ws : List ℕ} (o : Open s i x v ws) where
   pub small : x < 2 ^ 20
   small = omega (arith, o .inside, pow-mono {i = s .k} {j = 20} (o .proper .limits .high-k))
 
-  -- the total with v fits a word
+  -- the total and v fit a word
   pub total-fits : o .total + v < 2 ^ 32
   total-fits = omega (arith, o .room, pow-mono {i = s .m} {j = 24} (o .proper .limits .high-m))
 
--- the slot j at which x falls, where x is not below F
+-- the slot j that the search finds for x, if x is not below F
 pub record Found (s : Shape) (i x v : ℕ) (ws : List ℕ) (j : ℕ) : Type 0 where
   pub opened : Open s i x v ws
   pub kept : getD ws 1 0 ≤ x
@@ -83,7 +83,7 @@ module _ {s : Shape} {i x v : ℕ} {ws : List ℕ} {j : ℕ} (e : Found s i x v 
     parted-few : length (before ++ after) ≤ s .n
     parted-few = rw same at (sound (e .opened) .few)
 
-  -- v more than the weight of a bucket fits a word
+  -- the weight of a bucket and v fit a word
   fits : (b : Bucket) (after : List Bucket) → bs ≡ before ++ b ∷ after → b .weight + v < 2 ^ 32
   fits b after same =
       let o = e .opened in
@@ -101,7 +101,7 @@ upper-limits {i} o low =
     let high : i ≤ 24 = omega (arith, o .index, o .proper .last, top .high-m) in
     record { some = omega (arith, top .low-n); most = top .high-n; low = low; high = high; small = omega (arith, pow-mono {i = suc i} {j = 25} (omega arith)) }
 
--- some bucket covers x, and it is that of slot j
+-- some bucket spans x, and it is that of slot j
 pub found-ready : {s : Shape} {i x v : ℕ} {ws : List ℕ} {j : ℕ} → Found s i x v ws j → 0 < i → Ready (s .n) i x v j ws
 unfolding decodeLevel
 found-ready {s} {i} {x} {v} {ws} {j} e low =
@@ -128,7 +128,7 @@ found-ready {s} {i} {x} {v} {ws} {j} e low =
 
 -- ---- level 0
 
--- whether slot j holds the bucket of offset x
+-- whether slot j has the bucket of offset x
 pub record At (j x : ℕ) (ws : List ℕ) (at : Bool) : Type 0 where
   pub yes : at ≡ true → (j < getD ws 0 0) × (slot ws j .offset ≡ x)
   pub no : at ≡ false → j < getD ws 0 0 → slot ws j .offset ≡ x → ⊥
@@ -160,7 +160,7 @@ module _ {s : Shape} {x v : ℕ} {ws : List ℕ} {j : ℕ} (e : Found s 0 x v ws
     there : j < getD ws 0 0
     there = omega (arith, count-parts (s .n) f (p .before) (b ∷ after) ws (parted e (b ∷ after) same), p .size)
 
-  -- the bucket of slot j is that of x, and gains v
+  -- slot j has the bucket of x, which gains v
   pub gains : j < getD ws 0 0 → slot ws j .offset ≡ x
       → (slot ws j .weight + v < 2 ^ 32) × (set ws (slotStart j + 2) (slot ws j .weight + v) ≡ encodeLevel (s .n) (insert (s .n) 0 x v (decodeLevel ws)))
   gains inside at = go (p .after) (p .same)
@@ -179,7 +179,7 @@ module _ {s : Shape} {x v : ℕ} {ws : List ℕ} {j : ℕ} (e : Found s 0 x v ws
                 ∙ insert-put (s .n) x f (e .kept) (p .before) under b after is (parted-few e (b ∷ after) same) v)),
           )
 
-  -- x has no bucket, and one is put in at slot j
+  -- x has no bucket, and one is put into slot j
   pub makes : (j < getD ws 0 0 → slot ws j .offset ≡ x → ⊥) → {ws′ : List ℕ} {up : ℕ} → Becomes (s .n) 0 j [] (bucketOf x 1 v ∷ []) ws ws′ up
       → ws′ ≡ encodeLevel (s .n) (insert (s .n) 0 x v (decodeLevel ws))
   makes none put =

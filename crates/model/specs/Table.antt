@@ -1,4 +1,4 @@
--- Document 01's examples P1 to P10, as one table that the definitions meet. Assumes nothing.
+-- SPECIFICATION 13: the examples P1 to P10, as one table that the definitions meet. Assumes nothing.
 use mathlib.Core.Bool.{Bool, true, _&&_}
 use mathlib.Core.Path.{_≡_, refl}
 use mathlib.Core.List.{List, [], _∷_, _++_}
@@ -29,13 +29,13 @@ exampleWords = bookWords exampleShape
 pub data Fact : Type 0 where
   -- level i of the even half
   levelIs : ℕ → Level → Fact
-  -- what the next call is answered, by the book and by the ledger
+  -- what the book and the ledger reply to the next call
   answers : Call → Reply → Fact
   exactly : Call → Reply → Fact
-  -- the level that a window is answered from
+  -- the level that serves a window
   servedFrom : ℕ → ℕ → Fact
 
--- every one of these levels has F past a
+-- each of these levels has F above a
 abbrev pub past : ℕ → List Level → Bool
 past a [] = true
 past a (l ∷ ls) = ltb a (l .first) && past a ls
@@ -74,7 +74,7 @@ Meets e =
 abbrev pub start : List Call
 start = Make (exampleShape .k) (exampleShape .n) (exampleShape .m) (exampleShape .g) ∷ Clock 3 ∷ []
 
--- one delivery of grade 0
+-- a delivery of grade 0
 abbrev pub d : ℕ → ℕ → Call
 d stamp volume = Delivery 0 stamp volume
 
@@ -121,7 +121,7 @@ table =
     ∷ answers (q 3) (accepted (6 ∷ []))
     ∷ servedFrom 3 2
     ∷ [])
-    -- P7, with what the ledger has, and P9 at each stamp
+    -- P7, with the ledger's sum, and P9 at each stamp
     ∷ example p₇
     (levelIs 2 (levelOf 0 (bucketOf 0 2 4 ∷ bucketOf 2 2 4 ∷ []))
     ∷ answers (q 2) (accepted (4 ∷ []))
@@ -135,7 +135,7 @@ table =
     ∷ answers (d 2 9) (refused 12)
     ∷ answers (d 3 9) (refused 12)
     ∷ [])
-    -- P8: of the five the last three change nothing at level 1
+    -- P8: of the five, the last three change nothing at level 1
     ∷ example (p₂ ++ d 0 2 ∷ []) (levelIs 1 (levelOf 1 (bucketOf 1 1 2 ∷ bucketOf 2 2 2 ∷ [])) ∷ [])
     ∷ example (p₂ ++ d 0 5 ∷ []) (levelIs 1 (levelOf 1 (bucketOf 1 1 2 ∷ bucketOf 2 2 2 ∷ [])) ∷ [])
     -- a bucket of length 1 gains and does not split

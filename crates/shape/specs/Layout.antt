@@ -1,4 +1,4 @@
--- How many words a book and its parts take, and where they start. Assumes nothing.
+-- How many words a book and its parts take, and where they start: SPECIFICATION 3.6. Assumes nothing.
 use Prim.Native.Nat.{ℕ, _+_, _*_}
 use Rattle.shape.specs.declared.Shape.{Shape}
 

@@ -15,16 +15,16 @@ pub const LEVEL_HEAD_LEN: usize = 2;
 // The words of a slot.
 pub const SLOT_LEN: usize = 3;
 
-// Document 01's shape. Only what `Shape::new` gives is held to the limits, and only that has document 01's lengths; every method is
-// defined on any fields.
+// The shape of a book: SPECIFICATION 2.2. Only what `Shape::new` gives is held to the limits, and only that has the lengths of SPECIFICATION
+// 3.6. Every method is defined on any fields.
 pub struct Shape {
     // An interval is 2 ^ k ticks.
     pub k: u8,
     // A level holds at most n buckets.
     pub n: u16,
-    // Document 01's M: levels run from 0 to m, and a half keeps at most 2 ^ m decilitres.
+    // M in the customer's paper: levels run from 0 to m, and a half takes at most 2 ^ m decilitres.
     pub m: u8,
-    // The count of grades.
+    // The number of grades.
     pub g: u8,
     // The coarsest level that the book keeps.
     pub last: u8,
@@ -87,7 +87,7 @@ impl Shape {
         })
     }
 
-    // The words of one level.
+    // The words of one level: SPECIFICATION 3.6, as for the methods below.
     pub fn level_len(self) -> usize
         ensures { λ r. ⌜ r ≡ levelWords self ⌝ }
     {
@@ -115,7 +115,7 @@ impl Shape {
         HEAD_LEN + (grade as usize) * self.block_len()
     }
 
-    // Where a level of the half of a parity starts in the block.
+    // Where a level starts in the block, in the half of this parity.
     pub fn level_start(self, parity: u8, level: u8) -> usize
         ensures { λ r. ⌜ r ≡ levelStart self parity level ⌝ }
     {

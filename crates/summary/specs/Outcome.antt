@@ -1,5 +1,5 @@
--- What each call answers and leaves, by the number of its first refusal; and the words that make and clock write. Rests on the laws of
--- the refusals and of the book's parts.
+-- What each call answers and leaves, by the number of its first refusal; and the words that make and clock write. Rests on the laws of the
+-- refusals and of the book's parts.
 use mathlib.Core.Bool.{true, false}
 use mathlib.Core.Path.{_≡_, refl, sym, ap, _∙_}
 use mathlib.Core.List.{List, [], _++_}
@@ -60,7 +60,7 @@ module _ (ws : List ℕ) (k n m g : ℕ) where
     unfolding refusals bookView
     make-fits h = rw (inside, eq-eqb (length ws) (bookWords (shaped k n m g)) h)
 
--- ---- the head written anew
+-- ---- another head
 
 module _ (s : Shape) (clock : ℕ) (ws : List ℕ) where
   -- the words with another head
@@ -70,7 +70,7 @@ module _ (s : Shape) (clock : ℕ) (ws : List ℕ) where
   pub length-headed : headLen ≤ length ws → length headed ≡ length ws
   length-headed h = simp length-drop (omega arith)
 
-  -- the blocks stay
+  -- the blocks are the same
   pub blockPart-headed : (grade : ℕ) → blockPart s grade headed ≡ blockPart s grade ws
   unfolding blockStart
   blockPart-headed grade =
@@ -80,7 +80,7 @@ pub book-long : (s : Shape) (ws : List ℕ) → length ws ≡ bookWords s → he
 unfolding bookWords
 book-long s ws h = omega arith
 
--- an accepted make's words
+-- the words of an accepted make
 pub made-swept : (s : Shape) (ws : List ℕ) → take headLen (headed s 0 ws) ++ join (upFrom (emptied s) 0 (s .g)) ≡ made s
 unfolding made
 made-swept s ws = ap (λ (z : List (List ℕ)). encodeHead s 0 ++ join z) (sym (replicate-upFrom (emptied s 0) 0 (s .g)))
@@ -115,7 +115,7 @@ module _ (ws : List ℕ) (s : Shape) (clock to : ℕ) (o : Open ws s clock) (h :
       (ap (λ (c : ℕ). encodeBlock s (advance s c to (decodeBlock s (blockPart s grade ws)))) (o .now)
       ∙ ap (λ (z : Shape). encodeBlock s (advance s (clockOf ws) to (decodeBlock z (blockPart z grade ws)))) (o .same))
 
-  -- an accepted clock's words
+  -- the words of an accepted clock
   pub clocked-swept : take headLen (headed s to ws) ++ join (upFrom (advanced s clock to (headed s to ws)) 0 (s .g)) ≡ clocked (shapeOf ws) to ws
   unfolding clocked
   clocked-swept =
@@ -169,7 +169,7 @@ module _ (ws : List ℕ) (s : Shape) (clock grade window : ℕ) (o : Open ws s c
 
 -- ---- the outcomes of accepted calls
 
--- a shape within its limits is the one that its numbers make
+-- a shape within its limits is the one made of its numbers
 shaped-proper : (s : Shape) → Proper s → shaped (s .k) (s .n) (s .m) (s .g) ≡ s
 shaped-proper s p = ap (λ (z : ℕ). record { k = s .k; n = s .n; m = s .m; g = s .g; last = z }) (sym (p .last))
 

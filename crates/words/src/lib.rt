@@ -1,4 +1,4 @@
-// What several crates do with words: a word as a number of another width, a power of two, the words of a slot, and two truth values joined.
+// What several crates do with words: a word as a number of another type, a power of two, the words of a slot, and two Booleans joined.
 use shape::LEVEL_HEAD_LEN;
 use shape::SLOT_LEN;
 ghost use mathlib.Core.Path.{_≡_};
@@ -17,7 +17,7 @@ pub fn wide(x: u32) -> usize
     x as usize
 }
 
-// A word as a part of a sum, which no words overflow.
+// A word as a term of a sum of 64 bits.
 pub fn long(x: u32) -> u64
     ensures { λ r. ⌜ (r ≡ x) × (r < 2 ^ 32) ⌝ }
 {

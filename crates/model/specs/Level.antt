@@ -30,10 +30,10 @@ put x (b ∷ bs) = cond (ltb x (b .offset)) (bucketOf x 1 1 ∷ b ∷ bs) (cond 
 abbrev pub holds : Bucket → ℕ → Bool  -- SPECIFICATION 3.5: the bucket spans offset x
 holds b x = leb (b .offset) x && ltb x (b .offset + b .width)
 
-abbrev pub isFull : ℕ → Bucket → Bool  -- at level i, after a gain: it weighs 2^(i+1) and is longer than 1
+abbrev pub isFull : ℕ → Bucket → Bool  -- SPECIFICATION 4.3: after a gain at level i, the bucket has reached 2^(i+1) and is wider than 1
 isFull i b = eqb (b .weight) (2 ^ suc i) && ltb 1 (b .width)
 
-abbrev pub split : ℕ → Bucket → List Bucket  -- at level i a full bucket is halved, 2^i to each half
+abbrev pub split : ℕ → Bucket → List Bucket  -- SPECIFICATION 4.3 ('halve' in the customer's paper): at level i a full bucket becomes two, each of half the width and of weight 2^i
 split i b =
     let half = b .width / 2 in
     cond (isFull i b) (bucketOf (b .offset) half (2 ^ i) ∷ bucketOf (b .offset + half) half (2 ^ i) ∷ []) (b ∷ [])

@@ -59,7 +59,7 @@ abbrev pub entered : Ledger → List Call → Ledger
 entered l [] = l
 entered l (call ∷ calls) = entered (enter exampleWords l call .left) calls
 
--- calls on as many words as the shape needs, all zero at first; and what then holds
+-- calls on as many words as the shape needs, all zero at first; and what holds after them
 pub record Example : Type 0 where
   pub start : List Call
   pub calls : List Call
@@ -70,7 +70,7 @@ Meets e =
     let calls = e .start ++ e .calls in
     Each (Holds (words (replicate exampleWords 0) calls) (entered (ledgerOf exampleShape 0 []) calls)) (e .facts)
 
--- a book of that shape with the clock at 3
+-- a book of that shape, with the clock at 3
 abbrev pub start : List Call
 start = Make (exampleShape .k) (exampleShape .n) (exampleShape .m) (exampleShape .g) ∷ Clock 3 ∷ []
 
@@ -78,7 +78,7 @@ start = Make (exampleShape .k) (exampleShape .n) (exampleShape .m) (exampleShape
 abbrev pub d : ℕ → ℕ → Call
 d stamp volume = Delivery 0 stamp volume
 
--- one question of grade 0
+-- a question of grade 0
 abbrev pub q : ℕ → Call
 q window = Query 0 window
 
@@ -138,7 +138,7 @@ table =
     -- P8: of the five, the last three change nothing at level 1
     ∷ example (p₂ ++ d 0 2 ∷ []) (levelIs 1 (levelOf 1 (bucketOf 1 1 2 ∷ bucketOf 2 2 2 ∷ [])) ∷ [])
     ∷ example (p₂ ++ d 0 5 ∷ []) (levelIs 1 (levelOf 1 (bucketOf 1 1 2 ∷ bucketOf 2 2 2 ∷ [])) ∷ [])
-    -- a bucket of length 1 gains and does not split
+    -- a bucket of width 1 gains and does not split
     ∷ example (p₇ ++ d 2 2 ∷ []) (levelIs 1 (levelOf 2 (bucketOf 2 1 4 ∷ bucketOf 3 1 2 ∷ [])) ∷ [])
     -- P10
     ∷ example (p₇ ++ Clock 8 ∷ [])

@@ -2,23 +2,23 @@
 use Prim.Native.Nat.{ℕ, _+_, _*_}
 use Rattle.shape.specs.declared.Shape.{Shape}
 
--- the words of the book's head
+-- the words of the book's head: SPECIFICATION 3.2
 abbrev pub headLen : ℕ
 headLen = 8
 
--- the words of a block before its levels: the totals of its two halves
+-- the words of a block before its levels: the totals of its two halves (SPECIFICATION 3.3)
 abbrev pub blockHeadLen : ℕ
 blockHeadLen = 2
 
--- where the total of the half of a parity (0 even, 1 odd) stands in the block
+-- where the total of a half stands in the block; parity 0 is the even half, 1 the odd one
 abbrev pub totalStart : ℕ → ℕ
 totalStart parity = parity
 
--- the words of a level before its slots: its count and its first kept offset
+-- the words of a level before its slots: its count and its first kept offset (SPECIFICATION 3.5)
 abbrev pub levelHeadLen : ℕ
 levelHeadLen = 2
 
--- the words of a slot: offset, length, weight
+-- the words of a slot ('place' in the customer's paper): offset, width, weight (SPECIFICATION 3.5)
 abbrev pub slotLen : ℕ
 slotLen = 3
 
@@ -42,6 +42,6 @@ bookWords s = headLen + s .g * blockWords s
 unfoldable pub blockStart : Shape → ℕ → ℕ
 blockStart s grade = headLen + grade * blockWords s
 
--- where a level of the half of a parity starts in the block
+-- where a level starts in the block, in the half of a parity
 unfoldable pub levelStart : Shape → ℕ → ℕ → ℕ
 levelStart s parity i = blockHeadLen + (parity * (s .last + 1) + i) * levelWords s

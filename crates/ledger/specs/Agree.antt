@@ -1,5 +1,4 @@
--- Book and ledger find the same first refusal for every call.
--- Rests on the words of a ledger being a sound book.
+-- Book and ledger find the same first refusal for every call. Rests on the words of a ledger being a sound book.
 use mathlib.Core.Bool.{true, not, _||_}
 use mathlib.Core.Path.{_≡_, refl, ap, ap₂}
 use mathlib.Core.List.{List}
@@ -43,7 +42,7 @@ module _ (l : Ledger) (good : Good l) where
   abbrev exactView : View
   exactView = ledgerView (length ws) l
 
-  -- the total of the half that serves a stamp which is neither ahead nor late
+  -- the total of the half that serves a stamp, if the stamp is neither ahead nor late
   total-agrees : (grade stamp : ℕ) → grade < s .g → stamp ≤ clock → clock ≤ stamp + 2 ^ s .k
       → halfOf (interval s stamp) (decodeBlock s (blockPart s grade ws)) .total ≡ volumeOf (ofInterval s (ofGrade grade) (interval s stamp)) es
   unfolding halfFed

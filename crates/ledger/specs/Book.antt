@@ -1,4 +1,4 @@
--- The block of the entries that satisfy a test, as a function of the ledger: one more entry is a delivery, a later clock an advance.
+-- The block of the entries that satisfy a test, as a function of the ledger: one more entry is a delivery, and a later clock is an advance.
 -- Assumes nothing.
 use mathlib.Core.Bool.{Bool, true, false, cond}
 use mathlib.Core.Path.{_≡_, refl, sym, ap, ap₂, _∙_}
@@ -17,7 +17,7 @@ use Rattle.ledger.specs.Time.{interval-mono}
 use Rattle.ledger.specs.Grown.{halfFor, halfFor-none, halfFor-more, halfFor-other}
 use Rattle.ledger.specs.Served.{served, served-near, served-parity, served-clock}
 
--- the half of a parity, for the entries that satisfy a test, at a clock
+-- the half of a parity at a clock, for the entries that satisfy a test
 abbrev pub halfAt : Shape → ℕ → List Entry → (Entry → Bool) → ℕ → Half
 halfAt s clock es p parity = halfFor s (ofInterval s p (served (interval s clock) parity)) es
 
@@ -39,14 +39,14 @@ unfolding blockFor
 halfOf-blockFor s clock es p j =
     by-parity j (λ r. cond (eqb r 0) (halfAt s clock es p 0) (halfAt s clock es p 1) ≡ halfAt s clock es p r) refl refl
 
--- the half that serves the clock's interval or the one before
+-- the half that serves the clock's interval, or the interval before
 pub halfOf-served : (s : Shape) (clock : ℕ) (es : List Entry) (p : Entry → Bool) (j : ℕ) → j ≤ interval s clock → interval s clock ≤ j + 1
     → halfOf j (blockFor s clock es p) ≡ halfFor s (ofInterval s p j) es
 halfOf-served s clock es p j low high =
     halfOf-blockFor s clock es p j ∙ ap (λ (i : ℕ). halfFor s (ofInterval s p i) es) (served-near (interval s clock) j low high)
 
 module _ (s : Shape) (p : Entry → Bool) (j : ℕ) where
-  -- an entry that satisfies the test, of this interval, of another interval; and one that does not
+  -- an entry of this interval that satisfies the test; one of another interval; one that does not satisfy it
   pub ofInterval-own : (e : Entry) → p e ≡ true → interval s (e .stamp) ≡ j → ofInterval s p j e ≡ true
   ofInterval-own e g i = rw (g, eq-eqb (interval s (e .stamp)) j i)
 
@@ -82,7 +82,7 @@ module _ (s : Shape) (old new : ℕ) (es : List Entry) (p : Entry → Bool) (up 
 -- ---- delivery
 
 module _ (s : Shape) (clock : ℕ) (es : List Entry) (e : Entry) where
-  -- a block whose test it does not satisfy is kept
+  -- a block stays if the new entry does not satisfy its test
   pub blockFor-other : (p : Entry → Bool) → p e ≡ false → blockFor s clock (e ∷ es) p ≡ blockFor s clock es p
   unfolding blockFor
   blockFor-other p g = ap₂ (λ (e o : Half). record { even = e; odd = o }) (kept 0) (kept 1)
@@ -91,7 +91,7 @@ module _ (s : Shape) (clock : ℕ) (es : List Entry) (e : Entry) where
       kept parity = let j = served (interval s clock) parity in
           halfFor-other s (ofInterval s p j) e es (ofInterval-other s p j e g)
 
-  -- the others get a delivery, if the half of its parity serves its interval
+  -- otherwise it gets a delivery, if the half of the entry's parity serves its interval
   module _ (p : Entry → Bool) (takes : p e ≡ true) (serves : served (interval s clock) (interval s (e .stamp) % 2) ≡ interval s (e .stamp)) where
     own : (parity : ℕ) → interval s (e .stamp) % 2 ≡ parity
         → halfAt s clock (e ∷ es) p parity ≡ deliverHalf s (offsetOf s (e .stamp)) (e .volume) (halfAt s clock es p parity)

@@ -1,4 +1,4 @@
--- Demand 3, whole: `Claim` of the model, by one induction over the list of calls. The invariant is that the words are those of the
+-- The claim (demand 3): `Claim` of the model, by one induction over the list of calls. The invariant is that the words are those of the
 -- ledger. Rests on `agree` (the same first refusal), on what each accepted call leaves, and on the bound of an answer.
 use mathlib.Core.Bool.{true}
 use mathlib.Core.Path.{_≡_, refl, sym, ap, ap₂, _∙_}
@@ -27,7 +27,7 @@ use Rattle.ledger.specs.Agree.{agree}
 use Rattle.ledger.specs.Next.{made-words, made-good, block-is, clocked-words, clocked-good, delivered-words, delivered-good}
 use Rattle.ledger.specs.Window.{answer-admits}
 
--- what a call leads to: the ledger afterwards, for which the words then stand; within a span k stays and the clock does not fall
+-- what a call leads to: the ledger afterwards, whose words are then the book's; within a span k stays and the clock does not fall
 pub record Next (l : Ledger) (call : Call) : Type 0 where
   pub later : Ledger
   pub good : Good later
@@ -72,7 +72,7 @@ module _ (l : Ledger) (good : Good l) where
     unfolding enter
     exact-accepted h = settle-accepted (refusals (ledgerView (length ws) l) call) l (note l call) (sym (same-first call) ∙ h)
 
-    -- a refused call changes neither
+    -- a refused call changes neither the book nor the ledger
     book-refused : (first call ≡ 0 → ⊥) → perform ws call .left ≡ ws
     unfolding perform
     book-refused h = ap (λ o. o .left) (settle-refused (refusals (bookView ws) call) ws (accept ws call) h)
@@ -152,7 +152,7 @@ module _ (l : Ledger) (good : Good l) where
       → answer (shapeOf ws) (clockOf ws) (opening (clockOf ws) window) (blockAt ws grade) ≡ answer s clock (opening clock window) (blockFor s clock es (ofGrade grade))
   answer-is grade window h = rw (words-clock l good) (ap₂ (λ (z : Shape). answer z clock (opening clock window)) (words-shape l good) (block-is l good grade h))
 
-  -- what a relation of sums says of an answered question
+  -- if a relation holds of the two sums, it holds of the replies to an answered question
   query-relates : (grade window : ℕ) (R : ℕ → ℕ → Type 0) → turn (Query grade window) .book .number ≡ 0
       → (grade < s .g → window ≤ 2 ^ s .k
       → R (answer s clock (opening clock window) (blockFor s clock es (ofGrade grade))) (volumeOf (ofWindow clock (ofGrade grade) window) es))
@@ -180,7 +180,7 @@ module _ (l : Ledger) (good : Good l) where
       let call : Call = Delivery grade stamp volume in
       late-delivery exactView grade stamp volume (sym (same-first call) ∙ sym (perform-number ws call) ∙ number)
 
-  -- ---- what is late stays so through the span
+  -- ---- what is late stays late through the span
 
   module _ (call : Call) (c : Next l call) (stamp : ℕ) (h : stamp + 2 ^ s .k < clock) where
     late-next : ByCall (perform ws call .reply .number ≡ 0 → ⊥) (Unit {0}) (λ _. Unit {0}) (λ _ _. Unit {0}) call → stamp + 2 ^ c .later .shape .k < c .later .clock
@@ -215,7 +215,7 @@ module _ (l : Ledger) (good : Good l) where
 abbrev grown : Ledger → List Call → List Turn
 grown l calls = run (wordsOf l) l calls
 
--- a stamp that was late lies outside every window of the rest of the span
+-- a late stamp lies outside every window in the rest of the span
 outside : (calls : List Call) (l : Ledger) → Good l → (stamp : ℕ) → stamp + 2 ^ l .shape .k < l .clock → Span (Outside stamp) (grown l calls)
 unfolding run
 outside [] l good stamp h = tt
@@ -235,7 +235,7 @@ kept (call ∷ calls) l good =
       missed = (missed-step l good call c (grown (c .later) calls) (outside calls (c .later) (c .good)), rest .missed);
     })
 
--- demand 3, for every list of calls from the words that an accepted make left on any words
+-- the claim, for every list of calls from the words that an accepted make left on any words
 pub demand-3 : Claim
 unfolding Claim perform
 demand-3 before k n m g number calls =

@@ -1,5 +1,5 @@
--- What demand 3 excludes by itself: a book that answers every question with one number, and a book whose deliveries store nothing. Each
--- claims demand 3 of the wrong book and refutes it by a list of calls. Rests on the definitions alone.
+-- What the claim (demand 3) alone excludes: a book that answers every question with one number, and a book whose deliveries store nothing.
+-- If the claim is made of such a book, a list of calls refutes it. Rests on the definitions alone.
 use mathlib.Core.Path.{_≡_, refl}
 use mathlib.Core.List.{List, [], _∷_}
 use Prim.Native.Nat.{ℕ, _+_, _*_, _≤_}
@@ -17,11 +17,11 @@ use Rattle.model.specs.Calls.{Outcome, outcomeOf, refusals, bookView, made, clo
 use Rattle.model.specs.Ledger.{Ledger, ledgerOf, ledgerView, enter}
 use Rattle.model.specs.Claim.{Turn, run, Kept, Claim}
 
--- how a book performs a call
+-- a book is a way to perform calls
 abbrev pub Book : Type 0
 Book = List ℕ → Call → Outcome (List ℕ)
 
--- a run of such a book, and demand 3 of it
+-- a run of such a book, and the claim about it
 unfoldable pub runOf : Book → List ℕ → Ledger → List Call → List Turn
 runOf book ws l [] = []
 runOf book ws l (call ∷ calls) =
@@ -33,7 +33,7 @@ abbrev pub ClaimOf : Book → Type 0
 ClaimOf book = (before : List ℕ) (k n m g : ℕ) → book before (Make k n m g) .reply .number ≡ 0 → (calls : List Call)
     → Kept (runOf book (book before (Make k n m g) .left) (ledgerOf (shaped k n m g) 0 []) calls)
 
--- of the true book it is the claim itself
+-- for the true book it is the claim itself
 run-same : (ws : List ℕ) (l : Ledger) (calls : List Call) → runOf perform ws l calls ≡ run ws l calls
 unfolding runOf run
 run-same ws l [] = refl
@@ -54,7 +54,7 @@ constantSum c ws call =
     let done = perform ws call in
     outcomeOf (record { number = done .reply .number; values = constant c (done .reply .values) }) (done .left)
 
--- of nothing the sum is 0, and one decilitre is not answered with 0
+-- without deliveries the sum is 0, and after one decilitre 0 is wrong
 pub constant-excluded : (c : ℕ) → ClaimOf (constantSum c) → ⊥
 unfolding runOf perform refusals bookView made clocked delivered soundHead soundBlock soundHalf soundLevel within encodeBlock encodeLevel decodeBlock decodeHalf decodeLevel emptyHalf deliver deliverHalf advance answer unit insert blockWords bookWords blockStart levelStart enter ledgerView
 constant-excluded c claim =

@@ -21,7 +21,7 @@ abbrev pub events : Shape → (Entry → Bool) → List Entry → List Event
 events s p [] = []
 events s p (e ∷ es) = cond (p e) (record { at = offsetOf s (e .stamp); vol = e .volume } ∷ events s p es) (events s p es)
 
--- offsets lie within the interval
+-- their offsets lie within the interval
 pub events-inside : (s : Shape) (p : Entry → Bool) (es : List Entry) → Inside (s .k) (events s p es)
 events-inside s p [] = tt
 events-inside s p (e ∷ es) = go (p e) (events-inside s p es)
@@ -30,7 +30,7 @@ events-inside s p (e ∷ es) = go (p e) (events-inside s p es)
     go true h = (offset-lt s (e .stamp), h)
     go false h = h
 
--- the half that has been fed these events
+-- a half that was fed these events
 unfoldable pub halfFed : Shape → ℕ → List Event → Half
 halfFed s total vs = record { total = total; levels = upFrom (λ i. fed (s .k) (s .n) i vs) 0 (suc (s .last)) }
 
@@ -83,7 +83,7 @@ module _ (s : Shape) (p : Entry → Bool) (e : Entry) (es : List Entry) where
   pub halfFor-more : p e ≡ true → halfFor s p (e ∷ es) ≡ deliverHalf s (offsetOf s (e .stamp)) (e .volume) (halfFor s p es)
   halfFor-more h = rw h (sym (deliverHalf-fed s (volumeOf p es) (offsetOf s (e .stamp)) (e .volume) (events s p es)))
 
-  -- it does not
+  -- it does not satisfy the test: the half stays
   pub halfFor-other : p e ≡ false → halfFor s p (e ∷ es) ≡ halfFor s p es
   halfFor-other h = rw (h, zero-add (volumeOf p es))
 

@@ -1,4 +1,4 @@
--- What each accepted call leaves: the words of the ledger that it leaves. Rests on the block as a function of the ledger.
+-- What each accepted call leaves: the words of the ledger afterwards. Rests on the block as a function of the ledger.
 use mathlib.Core.Bool.{Bool, true, false, cond}
 use mathlib.Core.Path.{_≡_, refl, sym, ap, ap₂, _∙_}
 use mathlib.Core.Logic.{⊎-elim}
@@ -27,7 +27,7 @@ use Rattle.ledger.specs.Served.{served, served-near}
 use Rattle.ledger.specs.Book.{halfAt, blockFor, blockFor-clock, blockFor-more, blockFor-other}
 use Rattle.ledger.specs.State.{Good, wordsOf, block-size, words-shape, words-clock, words-block}
 
--- the same blocks, grade by grade, are the same words
+-- words with the same blocks, grade by grade, are the same
 wordsOf-cong : (s : Shape) (clock : ℕ) (es : List Entry) (f : ℕ → List ℕ)
     → ((grade : ℕ) → grade < s .g → f grade ≡ encodeBlock s (blockFor s clock es (ofGrade grade))) → bookOf s clock f ≡ wordsOf (ledgerOf s clock es)
 unfolding wordsOf

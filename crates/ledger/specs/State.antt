@@ -1,5 +1,5 @@
--- The words that a ledger stands for: they are a sound book, and its blocks are those of the ledger. Rests on the codec's laws and on
--- the soundness of fed levels.
+-- The words that a ledger stands for: they are a sound book, and its blocks are those of the ledger. Rests on the codec's laws and on the
+-- soundness of fed levels.
 use mathlib.Core.Bool.{true}
 use mathlib.Core.Path.{_≡_, refl}
 use mathlib.Core.List.{List}
@@ -24,8 +24,8 @@ use Rattle.ledger.specs.Grown.{events, events-inside, halfFed, counted-a
 use Rattle.ledger.specs.Served.{served}
 use Rattle.ledger.specs.Book.{halfAt, blockFor}
 
--- what holds of a ledger that calls have led to: the shape is within its limits, it is the one that its numbers make, and its last
--- level reaches past what a half holds at most; no entry lies ahead of the clock, and no interval of a grade holds more than 2^M
+-- what holds of a ledger that calls have led to: the shape is within its limits and made of its own numbers; n * 2^last is above 2^M, so the
+-- last level never evicts; no entry is ahead of the clock, and no interval has more than 2^M of a grade
 pub record Good (l : Ledger) : Type 0 where
   pub limits : Limits (l .shape .k) (l .shape .n) (l .shape .m) (l .shape .g)
   pub formed : shaped (l .shape .k) (l .shape .n) (l .shape .m) (l .shape .g) ≡ l .shape

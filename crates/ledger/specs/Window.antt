@@ -1,4 +1,5 @@
--- What a window covers, by interval and offset; and the sum of a question beside the ledger's. Rests on the relative bound of fed levels.
+-- What a window covers, by interval and offset; and the sum of a question compared with the ledger's. Rests on the relative bound of fed
+-- levels.
 use mathlib.Core.Bool.{Bool, true, false, cond, _&&_}
 use mathlib.Core.Path.{_≡_, refl, sym, _∙_}
 use mathlib.Core.Logic.{⊎-elim}
@@ -20,7 +21,7 @@ use Rattle.ledger.specs.Grown.{events, events-inside, halfFed, halfFor, 
 use Rattle.ledger.specs.Book.{blockFor, halfOf-served}
 use Rattle.ledger.specs.State.{Good}
 
--- two tests with the same meaning
+-- two comparisons that hold in the same cases
 leb-same : (x y u v : ℕ) → (x ≤ y → u ≤ v) → (u ≤ v → x ≤ y) → leb x y ≡ leb u v
 leb-same x y u v f g =
     ⊎-elim
@@ -29,11 +30,11 @@ leb-same x y u v f g =
     (lt-or-ge y x)
 
 module _ (s : Shape) (start stamp : ℕ) where
-  -- a stamp of the interval in which the window opens is covered by its offset
+  -- in the interval in which the window opens, a stamp is covered by its offset
   pub opens-within : interval s stamp ≡ interval s start → leb start stamp ≡ leb (offsetOf s start) (offsetOf s stamp)
   opens-within e = leb-same start stamp (offsetOf s start) (offsetOf s stamp) (offset-le s start stamp (sym e)) (tick-le s start stamp (sym e))
 
-  -- a stamp of a later interval is covered, one of an earlier interval is not
+  -- a stamp of a later interval is covered, and one of an earlier interval is not
   pub opens-before : interval s start < interval s stamp → leb start stamp ≡ true
   opens-before h = le-leb start stamp (omega (arith, interval-lt s start stamp h))
 
@@ -42,11 +43,11 @@ module _ (s : Shape) (start stamp : ℕ) where
 
 -- ---- the ledger's sum by interval and offset
 
--- the entries that satisfy a test, of an interval from an offset on
+-- an entry that satisfies a test, in interval j and from offset a on
 abbrev pub fromOffset : Shape → (Entry → Bool) → ℕ → ℕ → Entry → Bool
 fromOffset s p j a e = ofInterval s p j e && leb a (offsetOf s (e .stamp))
 
--- two lists of tests added up
+-- if each entry counts for p what it counts for q and r together, so do the sums
 volumeOf-sum : (p q r : Entry → Bool) (es : List Entry) → Each (λ e. cond (p e) (e .volume) 0 ≡ cond (q e) (e .volume) 0 + cond (r e) (e .volume) 0) es
     → volumeOf p es ≡ volumeOf q es + volumeOf r es
 volumeOf-sum p q r [] h = refl
@@ -143,7 +144,7 @@ module _ (s : Shape) (clock : ℕ) (p : Entry → Bool) (window : ℕ) where
         each [] h = tt
         each (e ∷ es) h = (parts e (h .0), each es (h .1))
 
--- ---- the answer beside the ledger's sum
+-- ---- the answer compared with the ledger's sum
 
 module _ (l : Ledger) (good : Good l) where
   abbrev s : Shape
@@ -155,11 +156,12 @@ module _ (l : Ledger) (good : Good l) where
   abbrev es : List Entry
   es = l .entries
 
-  -- a relation of the sum that the half for interval j gives from offset a on, and of the ledger's there
+  -- a relation between the sum from offset a on of the half for interval j, and the ledger's sum there
   abbrev HalfRelates : (ℕ → ℕ → Type 0) → (Entry → Bool) → ℕ → ℕ → Type 0
   HalfRelates R p j a = R (sumFrom a (serving a (halfFor s (ofInterval s p j) es .levels) .buckets)) (volumeOf (fromOffset s p j a) es)
 
-  -- a relation that the same volume more on both sides keeps holds of a window's sum if it holds of the half in which the window opens
+  -- if a relation survives adding the same volume on both sides and holds of the half in which the window opens, it holds of the window's
+  -- sums
   pub sum-relates : (R : ℕ → ℕ → Type 0) → ((x y more : ℕ) → R x y → R (x + more) (y + more)) → (p : Entry → Bool) (window : ℕ) → window ≤ 2 ^ s .k
       → HalfRelates R p (interval s (opening clock window)) (offsetOf s (opening clock window))
       → R (answer s clock (opening clock window) (blockFor s clock es p)) (volumeOf (ofWindow clock p window) es)
@@ -178,7 +180,7 @@ module _ (l : Ledger) (good : Good l) where
       (more _ _ (volumeOf (ofInterval s p current) es) half))
       (eq-or-ne from current))
 
-  -- the bound, where no interval of these entries holds more than 2^M
+  -- the bound, if no interval of these entries has more than 2^M
   module _ (p : Entry → Bool) (few : (j : ℕ) → volumeOf (ofInterval s p j) es ≤ 2 ^ s .m) where
     small : (j : ℕ) → counted (events s (ofInterval s p j) es) 0 < s .n * 2 ^ s .last
     small j = omega (arith, counted-all s (ofInterval s p j) es, few j, good .reach)

@@ -1,4 +1,4 @@
--- Laws of what opening a book answers: its cases, and what each part of the head tells. Assumes nothing.
+-- Laws of what opening a book answers: its cases, and what each part of the head says. Assumes nothing.
 use mathlib.Core.Bool.{Bool, true, false, cond, not, _&&_}
 use mathlib.Core.Path.{_≡_, refl, sym, ap}
 use mathlib.Core.List.{List, [], _∷_, _++_}
@@ -19,7 +19,7 @@ use Rattle.book.specs.declared.head.Opened.{Opened}
 use Rattle.book.specs.declared.head.Opened.the-variants.{Book, Refused}
 use Rattle.book.specs.Judgement.{openedOf, judgement, openedNumber}
 
--- ---- the same case by case
+-- ---- the same, case by case
 
 abbrev pub Told : ℕ → List ℕ → Opened → Type 0
 Told number ws (Book s clock) = (number ≡ 0) × (s ≡ shapeOf ws) × (clock ≡ clockOf ws)
@@ -41,13 +41,13 @@ module _ (number : ℕ) (ws : List ℕ) where
       go false h (Book s clock) e = let none : 0 ≡ number = ap (λ (x : Reply). x .number) e in absurd (eqb-false number 0 h (sym none))
       go false h (Refused r) e = ap (λ (x : Reply). x .number) (sym e)
 
--- ---- what the head tells
+-- ---- what the head says
 
 -- the last three words of the head are zero
 abbrev pub isBlank : List ℕ → Bool
 isBlank ws = eqb (getD ws 5 0) 0 && (eqb (getD ws 6 0) 0 && eqb (getD ws 7 0) 0)
 
--- words long enough for a head whose shape is within its limits
+-- words that are enough for a head, with a shape within its limits
 pub record Shaped (ws : List ℕ) (s : Shape) : Type 0 where
   pub long : headLen ≤ length ws
   pub inside : within (getD ws 0 0) (getD ws 1 0) (getD ws 2 0) (getD ws 3 0) ≡ true
@@ -66,7 +66,7 @@ module _ (ws : List ℕ) where
   unfolding soundHead
   head-outside h = rw h
 
-  -- with a shape within its limits the clock is looked at, then the last three words, then the length
+  -- if the shape is within its limits, the clock is tested, then the last three words, then the length
   module _ {s : Shape} (h : Shaped ws s) where
     pub opened-ahead : maxClock < clockOf ws → openedNumber ws ≡ 7
     unfolding soundHead

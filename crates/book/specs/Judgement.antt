@@ -16,11 +16,11 @@ unfoldable pub openedOf : Opened → Reply
 openedOf (Book s clock) = accepted (valuesOf s ++ clock ∷ [])
 openedOf (Refused r) = refused (numberOf r)
 
--- what it must answer for these words, by the number of the first refusal that applies, which is 0 where none does
+-- what it must answer for these words, if this is the number of the first refusal that applies; 0 means that none does
 unfoldable pub judgement : ℕ → List ℕ → Reply
 judgement number ws = cond (eqb number 0) (accepted (valuesOf (shapeOf ws) ++ clockOf ws ∷ [])) (refused number)
 
--- the number of the first refusal that every call but make begins with
+-- the number of the first of the refusals with which every call but make begins
 unfoldable pub openedNumber : List ℕ → ℕ
 openedNumber ws = firstOf (opened (bookView ws))
 

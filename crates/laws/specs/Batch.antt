@@ -1,5 +1,5 @@
--- v decilitres at one offset, added at once: which steps the code may take in place of v single ones. The buckets stand as
--- `before ++ b ∷ after`, where b is the one that x belongs to. Assumes nothing.
+-- v decilitres at one offset, inserted at once: which steps the code may take instead of v single ones. The buckets are `before ++ b ∷
+-- after`, where b is the bucket of x. Assumes nothing.
 use mathlib.Core.Bool.{true, false}
 use mathlib.Core.Logic.{⊎-elim}
 use mathlib.Core.Path.{_≡_, refl, sym, ap, _∙_}
@@ -15,15 +15,15 @@ use Rattle.model.specs.Claim.{Each}
 use Rattle.laws.specs.Cases.{lt-or-ge}
 use Rattle.laws.specs.Buckets.{raised, halves, by-split}
 
--- no bucket of the list covers x
+-- no bucket of the list spans x
 abbrev pub Uncovered : ℕ → List Bucket → Type 0
 Uncovered x = Each (λ b. holds b x ≡ false)
 
--- every bucket of the list stands below x
+-- every bucket of the list starts below x
 abbrev pub Under : ℕ → List Bucket → Type 0
 Under x = Each (λ b. b .offset < x)
 
--- the first bucket of the list, if there is one, stands above x
+-- the first bucket of the list, if there is one, starts above x
 abbrev pub Over : ℕ → List Bucket → Type 0
 Over x [] = Unit {0}
 Over x (b ∷ bs) = x < b .offset
@@ -48,12 +48,12 @@ evict-none n i f (b ∷ bs) h = rw (ne-eqb (suc (length bs)) (n + 1) (omega arit
 pub evict-lowest : (n i f : ℕ) (b : Bucket) (bs : List Bucket) → length bs ≡ n → evict n i f (b ∷ bs) ≡ levelOf (firstAfter i b bs) bs
 evict-lowest n i f b bs h = rw (eq-eqb (suc (length bs)) (n + 1) (omega arith))
 
--- one bucket, whichever it is, makes a list one longer
+-- one more bucket makes a list one longer
 pub one-longer : (before : List Bucket) (b : Bucket) (after : List Bucket) → length (before ++ b ∷ after) ≡ suc (length (before ++ after))
 one-longer before b after = simp length-append (omega arith)
 
 module _ (n i f x : ℕ) (kept : f ≤ x) (before after : List Bucket) where
-  -- what each unit adds to the weight of its bucket, v units add, as long as the bucket is not split
+  -- v units add v to the weight of a bucket, as long as it is not split
   raises : (b : Bucket) (v : ℕ) → length (before ++ b ∷ after) ≤ n
       → ((w : ℕ) → w < v → grow i x (before ++ raised w b ∷ after) ≡ before ++ gained (raised w b) ∷ after)
       → insert n i x v (levelOf f (before ++ b ∷ after)) ≡ levelOf f (before ++ raised v b ∷ after)
@@ -65,11 +65,11 @@ module _ (n i f x : ℕ) (kept : f ≤ x) (before after : List Bucket) where
 
 -- ---- a level from 1
 
--- a bucket that is not full, or has length 1, is not split
+-- a bucket that is not full, or has width 1, is not split
 split-none : (i : ℕ) (b : Bucket) → (1 < b .width → b .weight < 2 ^ suc i) → split i b ≡ b ∷ []
 split-none i b h = by-split i b (λ z. z ≡ b ∷ []) (λ full long. absurd (omega (arith, h long))) (λ _. refl)
 
--- what does not cover x is passed over
+-- buckets that do not span x are passed over
 add-past : (i x : ℕ) (before : List Bucket) → Uncovered x before → (rest : List Bucket) → add i x (before ++ rest) ≡ before ++ add i x rest
 add-past i x [] h rest = refl
 add-past i x (c ∷ before) h rest = rw (h .0) (ap (λ (z : List Bucket). c ∷ z) (add-past i x before (h .1) rest))
@@ -80,7 +80,7 @@ add-at i x b after covers before h = rw (add-past i x before h (b ∷ after), co
 
 module _ (n j x f : ℕ) (kept : f ≤ x) (before : List Bucket) (uncovered : Uncovered x before) (b : Bucket) (after : List Bucket)
     (covers : holds b x ≡ true) (few : length (before ++ b ∷ after) ≤ n) where
-  -- a bucket that is not filled, or has length 1, takes v at once
+  -- a bucket that is not filled, or has width 1, takes v at once
   pub insert-held : (v : ℕ) → (1 < b .width → b .weight + v < 2 ^ suc (suc j))
       → insert n (suc j) x v (levelOf f (before ++ b ∷ after)) ≡ levelOf f (before ++ raised v b ∷ after)
   insert-held v room =
@@ -88,7 +88,7 @@ module _ (n j x f : ℕ) (kept : f ≤ x) (before : List Bucket) (uncovered : Un
       (λ w h. add-at (suc j) x (raised w b) after covers before uncovered
       ∙ ap (λ (z : List Bucket). before ++ (z ++ after)) (split-none (suc j) (gained (raised w b)) (λ long. omega (arith, room long))))
 
-  -- what fills the bucket splits it, and the rest goes on
+  -- the unit that fills the bucket splits it, and the rest goes on
   fills : (v : ℕ) → 1 < b .width → suc (b .weight + v) ≡ 2 ^ suc (suc j)
       → insert n (suc j) x (suc v) (levelOf f (before ++ b ∷ after)) ≡ evict n (suc j) f (before ++ (halves (suc j) b ++ after))
   unfolding insert unit
@@ -114,7 +114,7 @@ module _ (n j x f : ℕ) (kept : f ≤ x) (before : List Bucket) (uncovered : Un
 
 -- ---- level 0
 
--- what stands below x is passed over
+-- buckets below x are passed over
 put-past : (x : ℕ) (before : List Bucket) → Under x before → (rest : List Bucket) → put x (before ++ rest) ≡ before ++ put x rest
 put-past x [] u rest = refl
 put-past x (c ∷ before) u rest =
@@ -133,7 +133,7 @@ module _ (n x f : ℕ) (kept : f ≤ x) (before : List Bucket) (under : Under x 
       → insert n 0 x v (levelOf f (before ++ b ∷ after)) ≡ levelOf f (before ++ raised v b ∷ after)
   insert-put b after same few v = raises n 0 f x kept before after b v few (λ w h. rw (put-past x before under (raised w b ∷ after), put-at x (raised w b) after same))
 
--- once the new bucket has its first unit: it stays and takes the rest, or is given up itself, and the rest is ignored
+-- after the first unit the new bucket stays and takes the rest, or it was evicted itself and the rest is ignored
 made : (n x f : ℕ) → f ≤ x → (before : List Bucket) → Under x before → (after : List Bucket) (rest : ℕ) → length (before ++ after) ≤ n
     → insert n 0 x rest (evict n 0 f (before ++ bucketOf x 1 1 ∷ after)) ≡ evict n 0 f (before ++ bucketOf x 1 (1 + rest) ∷ after)
 made n x f kept before under after rest few =
@@ -155,7 +155,7 @@ made n x f kept before under after rest few =
         (insert-put n x (c .offset + 1) (omega arith) cs (u .1) (bucketOf x 1 1) after refl (omega (arith, fits (bucketOf x 1 1))) rest)
 
 module _ (n x f : ℕ) (kept : f ≤ x) (before : List Bucket) (under : Under x before) where
-  -- where x has no bucket, one of weight v is made in its place, and the lowest is given up if there is no room
+  -- if x has no bucket, one of weight v is put in, and the lowest is evicted if there is no room
   pub insert-new : (after : List Bucket) → Over x after → length (before ++ after) ≤ n → (v : ℕ) → 0 < v
       → insert n 0 x v (levelOf f (before ++ after)) ≡ evict n 0 f (before ++ bucketOf x 1 v ∷ after)
   unfolding insert unit

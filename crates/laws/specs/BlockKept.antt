@@ -32,7 +32,7 @@ pub insertAll-upFrom : (n x v : ℕ) (f : ℕ → Level) (i c : ℕ) → insertA
 insertAll-upFrom n x v f i zero = refl
 insertAll-upFrom n x v f i (suc c) = ap (λ ls. insert n i x v (f i) ∷ ls) (insertAll-upFrom n x v f (suc i) c)
 
--- l is one of the levels i to last: the first of them that holds offset a
+-- l is the first of the levels i to last whose F is at most a
 pub record Served (a : ℕ) (f : ℕ → Level) (i last : ℕ) (l : Level) : Type 0 where
   pub index : ℕ
   pub low : i ≤ index
@@ -41,7 +41,7 @@ pub record Served (a : ℕ) (f : ℕ → Level) (i last : ℕ) (l : Level) : Typ
   pub held : f index .first ≤ a
   pub finer : (j : ℕ) → i ≤ j → j < index → a < f j .first
 
--- of levels i to i + d, of which the last is whole, the one of the serving index serves
+-- of levels i to i + d, if the last has evicted nothing, the one of the serving index serves
 pub serving-index : (a : ℕ) (f : ℕ → Level) (d i : ℕ) → f (i + d) .first ≡ 0
     → (servingIndex a (upFrom f i (suc d)) ≤ d) × (f (i + servingIndex a (upFrom f i (suc d))) ≡ serving a (upFrom f i (suc d)))
 serving-index a f zero i whole = rw (le-leb (f i .first) a (omega (arith, rw add-zero at whole))) (omega arith, ap f {x = i + 0} {y = i} (omega arith))
@@ -65,7 +65,7 @@ module _ (s : Shape) (proper : Proper s) where
     sound = λ i low. sound-tests (s .k) (s .n) i 0 (emptyLevel (s .k) i) .1 (empty-sound (s .k) (s .n) i (proper .limits .low-n));
   }
 
-  -- and so is a sound half with a delivery for which it has room
+  -- a sound half stays sound after a delivery for which it has room
   pub deliver-half : (h : Half) (x v : ℕ) → HalfSound s h → x < 2 ^ s .k → h .total + v ≤ 2 ^ s .m → HalfSound s (deliverHalf s x v h)
   unfolding deliverHalf
   deliver-half h x v y inside room = record {
@@ -98,7 +98,7 @@ module _ (s : Shape) (proper : Proper s) where
     by-test (HalfSound s) (empties (interval s old) (interval s new) 1) (λ _. empty-half) (λ _. y .1),
   )
 
-  -- as words
+  -- the same of the words
   pub both-sound : (b : Block) → Both b → soundBlock s (encodeBlock s b) ≡ true
   both-sound b y = soundBlock-encode s b (y .0) (y .1)
 
@@ -126,7 +126,7 @@ module _ (s : Shape) (proper : Proper s) where
         finer = λ j lo hi. ⊎-elim (λ (l : i < j). r .finer j l hi) (λ (g : j ≤ i). let here : j ≡ i = omega arith in rw here h) (lt-or-ge i j);
       })
 
-  -- the last level of a sound half holds every offset
+  -- the last level of a sound half has evicted nothing
   pub last-whole : (h : Half) (y : HalfSound s h) → y .levelAt (s .last) .first ≡ 0
   last-whole h y =
       let small : 2 * 2 ^ s .m ≤ s .n * 2 ^ s .m = mul-le-mul-right (2 ^ s .m) (proper .limits .low-n) in
@@ -134,7 +134,7 @@ module _ (s : Shape) (proper : Proper s) where
       let product : s .n * 2 ^ s .last ≡ s .n * 2 ^ s .m = ap (λ (z : ℕ). s .n * z) power in
       sound-serves (proper .limits .low-n) (half-level s h y (s .last) (omega arith)) (omega (arith, y .total, pow-pos (s .m)))
 
-  -- so one of the levels serves each opening: it holds it, and no finer one does
+  -- so one of the levels serves each opening: its F is at most the opening, and no finer level's is
   pub half-serves : (h : Half) (y : HalfSound s h) (a : ℕ) → Served a (y .levelAt) 0 (s .last) (serving a (h .levels))
   half-serves h y a =
       let last : 0 + s .last ≡ s .last = omega arith in

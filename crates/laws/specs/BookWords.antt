@@ -1,5 +1,5 @@
--- A book and its words: the head and the blocks stand where the layout says, and one block can be replaced without touching a word of the rest.
--- Rests on lists in parts.
+-- A book and its words: the head and the blocks are where the layout says, and replacing one block changes no other word. Rests on lists in
+-- parts.
 use mathlib.Core.Bool.{true, cond, _&&_}
 use mathlib.Core.Logic.{_≢_, _⊎_}
 use mathlib.Core.Path.{_≡_, refl, sym, ap, _∙_}
@@ -21,7 +21,7 @@ use Rattle.model.specs.Sound.{maxClock, soundHead}
 use Rattle.laws.specs.Cases.{and-true}
 use Rattle.laws.specs.Parts.{Each, length-join, take-drop-join, withPart-join, join-consecutive, take-upFrom, withPart-same, length-withPart, take-drop-withPart, take-withPart, getD-withPart-below, getD-withPart-above, part-withPart, place-next, places-apart}
 
--- ---- where the blocks stand
+-- ---- where the blocks start
 
 module _ (s : Shape) where
   -- a block ends where the next one starts, or before a later one
@@ -67,7 +67,7 @@ bookOf s clock f = encodeHead s clock ++ join (upFrom f 0 (s .g))
 pub shapeOf-encode : (k n m g clock : ℕ) (rest : List ℕ) → shapeOf (encodeHead (shaped k n m g) clock ++ rest) ≡ shaped k n m g
 shapeOf-encode k n m g clock rest = refl
 
--- and its clock
+-- the head names its clock
 pub clockOf-encode : (s : Shape) (clock : ℕ) (rest : List ℕ) → clockOf (encodeHead s clock ++ rest) ≡ clock
 clockOf-encode s clock rest = refl
 
@@ -115,20 +115,20 @@ pub soundHead-encode : (k n m g clock : ℕ) (rest : List ℕ) → Limits k n m 
 unfolding soundHead
 soundHead-encode k n m g clock rest l low = and-true (limits-within k n m g l) (and-true (le-leb clock maxClock low) refl)
 
--- what a sound head tells
+-- what follows if the head is sound
 module _ (ws : List ℕ) (sound : soundHead ws ≡ true) where
   head-tests : (within (getD ws 0 0) (getD ws 1 0) (getD ws 2 0) (getD ws 3 0) ≡ true) × ((leb (clockOf ws) maxClock && (eqb (getD ws 5 0) 0 && (eqb (getD ws 6 0) 0 && eqb (getD ws 7 0) 0))) ≡ true)
   unfolding soundHead
   head-tests = both sound
 
-  -- the shape lies within its limits
+  -- the shape is within its limits
   pub soundHead-limits : Limits (getD ws 0 0) (getD ws 1 0) (getD ws 2 0) (getD ws 3 0)
   soundHead-limits = within-limits (getD ws 0 0) (getD ws 1 0) (getD ws 2 0) (getD ws 3 0) (head-tests .0)
 
   rest-tests : (leb (clockOf ws) maxClock ≡ true) × ((eqb (getD ws 5 0) 0 && (eqb (getD ws 6 0) 0 && eqb (getD ws 7 0) 0)) ≡ true)
   rest-tests = both (head-tests .1)
 
-  -- and so does the clock
+  -- the clock is within its limit
   pub soundHead-clock : clockOf ws ≤ maxClock
   soundHead-clock = leb-true (clockOf ws) maxClock (rest-tests .0)
 
@@ -157,7 +157,7 @@ module _ (s : Shape) (grade : ℕ) (h : grade < s .g) (ws : List ℕ) (size : le
   fits = omega (arith, blockStart-fits s grade h)
 
   module _ (block : List ℕ) (block-size : length block ≡ blockWords s) where
-    -- the length stays
+    -- the number of words stays
     pub length-withBlock : length (withBlock s grade block ws) ≡ length ws
     length-withBlock = length-withPart (blockStart s grade) (blockWords s) block ws fits block-size
 
@@ -165,22 +165,22 @@ module _ (s : Shape) (grade : ℕ) (h : grade < s .g) (ws : List ℕ) (size : le
     pub blockPart-withBlock : blockPart s grade (withBlock s grade block ws) ≡ block
     blockPart-withBlock = take-drop-withPart (blockStart s grade) (blockWords s) block ws fits block-size
 
-    -- every other block is left as it is
+    -- no other block changes
     pub blockPart-withBlock-other : (other : ℕ) → other ≢ grade → blockPart s other (withBlock s grade block ws) ≡ blockPart s other ws
     blockPart-withBlock-other other apart =
         part-withPart (blockStart s grade) (blockWords s) block ws fits block-size (blockStart s other) (blockWords s) (blockStart-apart s other grade apart)
 
-    -- and so is the head
+    -- the head does not change
     pub head-withBlock : take headLen (withBlock s grade block ws) ≡ take headLen ws
     head-withBlock = take-withPart (blockStart s grade) (blockWords s) block ws fits block-size headLen (head-before s grade)
 
-    -- and every word below or above
+    -- no word below or above changes
     pub getD-withBlock-below : (i d : ℕ) → i < blockStart s grade → getD (withBlock s grade block ws) i d ≡ getD ws i d
     getD-withBlock-below = getD-withPart-below (blockStart s grade) (blockWords s) block ws fits block-size
 
     pub getD-withBlock-above : (i d : ℕ) → blockStart s grade + blockWords s ≤ i → getD (withBlock s grade block ws) i d ≡ getD ws i d
     getD-withBlock-above = getD-withPart-above (blockStart s grade) (blockWords s) block ws fits block-size
 
--- a block put back where it stood
+-- putting a block back changes nothing
 pub withBlock-same : (s : Shape) (grade : ℕ) (ws : List ℕ) → withBlock s grade (blockPart s grade ws) ws ≡ ws
 withBlock-same s grade ws = withPart-same (blockStart s grade) (blockWords s) ws

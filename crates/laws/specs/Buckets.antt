@@ -1,4 +1,4 @@
--- One bucket: what it becomes when it gains or is split, and the tests on it by their two cases. Assumes nothing.
+-- One bucket: what it becomes when it gains or splits, and case distinctions for its tests. Assumes nothing.
 use mathlib.Core.Bool.{true, false, cond}
 use mathlib.Core.Path.{_≡_, subst}
 use mathlib.Core.List.{List, [], _∷_}
@@ -8,7 +8,7 @@ use lib.Dec.{T, leb, ltb, eqb, leb→le, ltb→lt, eqb→eq, le→leb, lt→ltb,
 use Rattle.model.specs.Level.{Bucket, bucketOf, holds, split}
 use Rattle.laws.specs.Cases.{by-both, and-true, and-false}
 
--- the bucket with v more
+-- the bucket with v more weight
 abbrev pub raised : ℕ → Bucket → Bucket
 raised v b = bucketOf (b .offset) (b .width) (b .weight + v)
 
@@ -16,7 +16,7 @@ raised v b = bucketOf (b .offset) (b .width) (b .weight + v)
 abbrev pub halves : ℕ → Bucket → List Bucket
 halves i b = bucketOf (b .offset) (b .width / 2) (2 ^ i) ∷ bucketOf (b .offset + b .width / 2) (b .width / 2) (2 ^ i) ∷ []
 
--- the tests of `add` and of `split` by their two cases
+-- case distinctions for the tests of `add` and of `split`
 pub by-holds : {A : Type 0} {y z : A} (b : Bucket) (x : ℕ) (P : A → Type 0)
     → (b .offset ≤ x → x < b .offset + b .width → P y) → ((b .offset ≤ x → x < b .offset + b .width → ⊥) → P z) → P (cond (holds b x) y z)
 by-holds b x P f g =

@@ -1,4 +1,4 @@
--- A test on numbers taken by its two cases; a test known by its fact; nearness of two numbers. Assumes nothing.
+-- Case distinctions by a test on numbers; tests whose outcome is known; nearness of two numbers. Assumes nothing.
 use mathlib.Core.Bool.{Bool, true, false, not, cond, _&&_}
 use mathlib.Core.Path.{_≡_, refl}
 use mathlib.Core.Logic.{_⊎_, inl, inr}
@@ -45,7 +45,7 @@ pub and-false : (a : Bool) {b : Bool} → b ≡ false → (a && b) ≡ false
 and-false true e = e
 and-false false e = refl
 
--- a conjunction taken by its two cases
+-- case distinction by a conjunction
 pub by-both : {A : Type 0} (P : A → Type 0) {a b : A} (s t : Bool) → (T s → T t → P a) → ((T s → T t → ⊥) → P b) → P (cond (s && t) a b)
 by-both P true true f g = f tt tt
 by-both P true false f g = g (λ _ h. h)

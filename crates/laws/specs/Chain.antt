@@ -1,5 +1,5 @@
--- A level from 1: what is true of one bucket and of the buckets from an offset on, their shape together with how far the weights
--- differ from the counts c at each boundary, and that a decilitre keeps it. `p` stands for 2 ^ i. Assumes nothing.
+-- A level from 1: an invariant of the buckets from an offset on, which a decilitre keeps. It has their shape and how far the weights differ
+-- from the counts c at each boundary. `p` stands for 2 ^ i. Assumes nothing.
 use mathlib.Core.Path.{_≡_, refl, ap, _∙_}
 use mathlib.Core.List.{List, [], _∷_, _++_}
 use Prim.Native.Nat.{ℕ, zero, suc, _+_, _*_, _/_, _^_, _≤_, _<_}
@@ -23,7 +23,7 @@ pub record Dyadic (k a width : ℕ) : Type 0 where
   pub deep : size + depth ≡ k
   pub aligned : a ≡ place * width
 
--- the bucket b starts at a, and `rest` is the weight of those above it
+-- the bucket b starts at a, and `rest` is the weight of the buckets above it
 pub record Part (p k : ℕ) (c : ℕ → ℕ) (a rest : ℕ) (b : Bucket) : Type 0 where
   pub at : b .offset ≡ a
   pub shape : Dyadic k a (b .width)
@@ -31,7 +31,7 @@ pub record Part (p k : ℕ) (c : ℕ → ℕ) (a rest : ℕ) (b : Bucket) : Type
   pub left : Near (shape .depth * p) (b .weight + rest) (c a)
   pub right : Near (shape .depth * p) rest (c (a + b .width))
 
--- the buckets reach from a to 2 ^ k with no gap
+-- the buckets reach from a to 2 ^ k without a gap
 abbrev pub Chain : ℕ → ℕ → (ℕ → ℕ) → ℕ → List Bucket → Type 0
 Chain p k c a [] = (a ≡ 2 ^ k) × (c a ≡ 0)
 Chain p k c a (b ∷ bs) = Part p k c a (weightOf bs) b × (1 < b .width → b .weight < 2 * p) × Chain p k c (a + b .width) bs
@@ -89,7 +89,7 @@ module _ (p k : ℕ) where
   chain-above c t a [] h g = tt
   chain-above c t a (b ∷ bs) h g = (omega arith, chain-above c t (a + b .width) bs (omega arith) (g .2))
 
-  -- a bucket of weight 2 * p and more than one tick gives way to its halves
+  -- a bucket of weight 2 * p and of more than one tick may be replaced by its halves
   halves-chain : {c : ℕ → ℕ} {a : ℕ} {b : Bucket} (bs : List Bucket) → 0 < p → Falling c
       → b .weight ≡ 2 * p → 1 < b .width → Part p k c a (weightOf bs) b → Chain p k c (a + b .width) bs
       → Chain p k c a (bucketOf (b .offset) (b .width / 2) p ∷ bucketOf (b .offset + b .width / 2) (b .width / 2) p ∷ bs)
@@ -136,7 +136,7 @@ module _ (i k x : ℕ) (c : ℕ → ℕ) where
   chain-below : (a : ℕ) (bs : List Bucket) → x < a → Chain (2 ^ i) k c a bs → Chain (2 ^ i) k (more x 1 c) a bs
   chain-below a bs h = chain-ext (2 ^ i) k a bs (λ t l. omega (arith, share-none x 1 t (omega arith)))
 
-  -- a bucket that ends at x or before
+  -- a bucket that ends at or before x
   passed : {a rest : ℕ} {b : Bucket} → a + b .width ≤ x → Part (2 ^ i) k c a rest b → Part (2 ^ i) k (more x 1 c) a (suc rest) b
   passed {a} {b} h q = record {
     at = q .at;
@@ -146,7 +146,7 @@ module _ (i k x : ℕ) (c : ℕ → ℕ) where
     right = omega (arith, share-all x 1 (a + b .width) (omega arith));
   }
 
-  -- the bucket that covers x
+  -- the bucket that spans x
   struck : {a rest : ℕ} {b : Bucket} → a ≤ x → x < a + b .width → Part (2 ^ i) k c a rest b → Part (2 ^ i) k (more x 1 c) a rest (gained b)
   struck {a} {b} l h q = record {
     at = q .at;
@@ -156,7 +156,7 @@ module _ (i k x : ℕ) (c : ℕ → ℕ) where
     right = omega (arith, share-none x 1 (a + b .width) h);
   }
 
-  -- one decilitre more in all
+  -- the whole weight grows by one
   pub add-weight : (a : ℕ) (bs : List Bucket) → a ≤ x → x < 2 ^ k → Chain (2 ^ i) k c a bs → weightOf (add i x bs) ≡ suc (weightOf bs)
   add-weight a [] l h g = omega arith
   add-weight a (b ∷ bs) l h g =

@@ -1,4 +1,4 @@
--- Where an offset lands in a sound level: which bucket it belongs to, and what stands before that one. Assumes nothing.
+-- Which bucket of a sound level spans an offset, and what comes before it. Assumes nothing.
 use mathlib.Core.Bool.{true}
 use mathlib.Core.Logic.{⊎-elim}
 use mathlib.Core.Path.{_≡_, refl, ap}
@@ -12,7 +12,7 @@ use Rattle.laws.specs.Batch.{Uncovered, Under}
 use Rattle.laws.specs.Rise.{Rising}
 use Rattle.laws.specs.SoundFacts.{SoundBucket, Chained}
 
--- the first bucket of the list that covers x
+-- the first bucket of the list that spans x
 pub record Covered (x : ℕ) (bs : List Bucket) : Type 0 where
   pub before : List Bucket
   pub here : Bucket
@@ -22,7 +22,7 @@ pub record Covered (x : ℕ) (bs : List Bucket) : Type 0 where
   pub covers : holds here x ≡ true
 
 module _ (k i count : ℕ) where
-  -- some bucket covers every offset from the first on
+  -- each offset from the first on is spanned by some bucket
   pub chained-covered : (x start : ℕ) (bs : List Bucket) → start ≤ x → x < 2 ^ k → Chained k i count start bs → Covered x bs
   chained-covered x start [] l h g = absurd (omega arith)
   chained-covered x start (b ∷ bs) l h g =
@@ -57,7 +57,7 @@ module _ (k i count : ℕ) where
     chained-start start [] g = omega (arith, g .0 .at)
     chained-start start (c ∷ before) g = omega (arith, g .0 .at, chained-start (c .offset + c .width) before (g .1))
 
-    -- what stands before a bucket covers nothing from its offset on
+    -- the buckets before b span nothing from its offset on
     pub chained-uncovered : (x start : ℕ) (before : List Bucket) → Chained k i count start (before ++ b ∷ after) → b .offset ≤ x → Uncovered x before
     chained-uncovered x start [] g h = tt
     chained-uncovered x start (c ∷ before) g h =
@@ -69,7 +69,7 @@ module _ (k : ℕ) (b : Bucket) (after : List Bucket) where
   rising-start a [] r = r .0 .low
   rising-start a (c ∷ before) r = omega (arith, r .0 .low, rising-start (c .offset + 1) before (r .1))
 
-  -- level 0: what stands before a bucket stands below it
+  -- level 0: the buckets before b are below it
   pub rising-under : (x a : ℕ) (before : List Bucket) → Rising k a (before ++ b ∷ after) → b .offset ≤ x → Under x before
   rising-under x a [] r h = tt
   rising-under x a (c ∷ before) r h =

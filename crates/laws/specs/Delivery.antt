@@ -1,4 +1,4 @@
--- A delivery as writes of levels: words that have the total raised and each level of the stamp's half inserted into are the delivered
+-- A delivery as writes of levels: raising the total and inserting into each level of the stamp's half gives the words of the delivered
 -- block. Rests on halves written level by level, and on insertion keeping a level sound.
 use mathlib.Core.Path.{_≡_, refl, sym, ap, _∙_}
 use mathlib.Core.List.{List}
@@ -30,11 +30,11 @@ module _ (s : Shape) (stamp v : ℕ) (ws : List ℕ) where
   abbrev pub wordsAfter : ℕ → List ℕ
   wordsAfter i = encodeLevel (s .n) (levelAfter i)
 
-  -- the words with the total raised and the levels below c inserted into
+  -- the words after the total was raised and the levels below c were written
   abbrev pub delivering : ℕ → List ℕ
   delivering c = withLevels s parity wordsAfter c (set ws parity (getD ws (totalStart parity) 0 + v))
 
-  -- words that hold the delivery
+  -- words with the delivery in them
   pub record Delivered (new : List ℕ) : Type 0 where
     pub size : length new ≡ blockWords s
     pub total : getD new parity 0 ≡ getD ws (totalStart parity) 0 + v
@@ -64,7 +64,7 @@ module _ (s : Shape) (stamp v : ℕ) (ws : List ℕ) where
       few = few-after;
     }
 
-    -- they are the delivered block
+    -- they are the words of the delivered block
     pub delivered-block : (new : List ℕ) → Delivered new → new ≡ encodeBlock s (deliver s stamp v (decodeBlock s ws))
     unfolding deliver deliverHalf decodeHalf after-sized
     delivered-block new d =
@@ -80,12 +80,12 @@ module _ (s : Shape) (stamp v : ℕ) (ws : List ℕ) where
     pub length-delivering : (c : ℕ) → c ≤ suc (s .last) → length (delivering c) ≡ blockWords s
     length-delivering = length-written s parity half wordsAfter after-words ws (w .size) (getD ws (totalStart parity) 0 + v)
 
-    -- the level that comes next is as it was
+    -- the next level has not changed yet
     pub levelPart-delivering : (i : ℕ) → i ≤ s .last → levelPart s parity i (delivering i) ≡ levelPart s parity i ws
     levelPart-delivering i low =
         levelPart-written-above s parity half wordsAfter after-words ws (w .size) (getD ws (totalStart parity) 0 + v) i (omega arith) i (omega arith)
 
-    -- and can take the delivery where the half can
+    -- it can take the delivery if the half can
     pub level-open : 0 < v → getD ws (totalStart parity) 0 + v ≤ 2 ^ s .m → (i : ℕ) → i ≤ s .last → Open s i (offsetOf s stamp) v (levelPart s parity i ws)
     level-open some room i low = record {
       total = getD ws (totalStart parity) 0;
@@ -98,7 +98,7 @@ module _ (s : Shape) (stamp v : ℕ) (ws : List ℕ) where
       room = room;
     }
 
-    -- after the last level the words hold the delivery
+    -- after the last level the words are those of the delivered block
     pub delivering-all : delivering (suc (s .last)) ≡ encodeBlock s (deliver s stamp v (decodeBlock s ws))
     unfolding deliverHalf decodeHalf after-sized
     delivering-all =

@@ -1,4 +1,4 @@
--- Halves written level by level: what the words of a block then hold, and which block they stand for. Rests on the codec of a block.
+-- Halves written level by level: what the words of a block are then, and which block they stand for. Rests on the codec of a block.
 use mathlib.Core.Bool.{true}
 use mathlib.Core.Logic.{_≢_, ⊎-elim}
 use mathlib.Core.Path.{_≡_, refl, sym, ap, subst, _∙_}
@@ -26,7 +26,7 @@ use Rattle.laws.specs.Proper.{Whole}
 
 -- ---- the halves of decoded words
 
--- a number has the parity 0 or 1
+-- case distinction by parity
 pub by-parity : (j : ℕ) (P : ℕ → Type 0) → (j % 2 ≡ 0 → P 0) → (j % 2 ≡ 1 → P 1) → P (j % 2)
 by-parity j P even odd = go (j % 2) refl (omega arith)
   where
@@ -69,7 +69,7 @@ abbrev pub withLevels : Shape → ℕ → (ℕ → List ℕ) → ℕ → List �
 withLevels s parity f zero ws = ws
 withLevels s parity f (suc c) ws = withLevel s parity c (f c) (withLevels s parity f c ws)
 
--- a half of these words is as it was in those
+-- the half of this parity is the same in both lists of words
 pub record Same (s : Shape) (parity : ℕ) (ws new : List ℕ) : Type 0 where
   pub total : getD new parity 0 ≡ getD ws (totalStart parity) 0
   pub parts : (i : ℕ) → i ≤ s .last → levelPart s parity i new ≡ levelPart s parity i ws
@@ -81,7 +81,7 @@ levelIndex-apart s a b apart i j l m e =
 
 module _ (s : Shape) (parity : ℕ) (p : parity ≤ 1) (f : ℕ → List ℕ) (sized : (i : ℕ) → i ≤ s .last → length (f i) ≡ levelWords s) (ws : List ℕ)
     (size : length ws ≡ blockWords s) where
-  -- the length stays
+  -- the number of words stays
   length-withLevels : (c : ℕ) → c ≤ suc (s .last) → length (withLevels s parity f c ws) ≡ blockWords s
   length-withLevels zero h = size
   length-withLevels (suc c) h =
@@ -97,7 +97,7 @@ module _ (s : Shape) (parity : ℕ) (p : parity ≤ 1) (f : ℕ → List ℕ) (s
       getD-withLevel-total s parity c p low (f c) (withLevels s parity f c ws) (length-withLevels c (omega arith)) (sized c low) total 0 two
       ∙ getD-withLevels-total c (omega arith) total two
 
-  -- and so does every level that is not written
+  -- a level that is not written stays
   levelPart-withLevels-other : (c : ℕ) → c ≤ suc (s .last) → (other j : ℕ) → ((i : ℕ) → i < c → levelIndex s other j ≢ levelIndex s parity i)
       → levelPart s other j (withLevels s parity f c ws) ≡ levelPart s other j ws
   levelPart-withLevels-other zero h other j apart = refl
@@ -123,7 +123,7 @@ module _ (s : Shape) (parity : ℕ) (p : parity ≤ 1) (f : ℕ → List ℕ) (s
       (λ (g : c ≤ i). let same : i ≡ c = omega arith in rw same (levelPart-withLevel s parity c p low (f c) before size-before (sized c low)))
       (lt-or-ge i c)
 
--- a total and all levels of a half written
+-- writing a total and all levels of a half
 module _ (s : Shape) (parity : ℕ) (p : parity ≤ 1) (f : ℕ → List ℕ) (sized : (i : ℕ) → i ≤ s .last → length (f i) ≡ levelWords s) (ws : List ℕ)
     (size : length ws ≡ blockWords s) (v : ℕ) where
   abbrev start : List ℕ
@@ -135,7 +135,7 @@ module _ (s : Shape) (parity : ℕ) (p : parity ≤ 1) (f : ℕ → List ℕ) (s
   pub length-written : (c : ℕ) → c ≤ suc (s .last) → length (withLevels s parity f c (set ws parity v)) ≡ blockWords s
   length-written = length-withLevels s parity p f sized start start-size
 
-  -- a level from c on is as it was
+  -- a level from c on has not changed yet
   pub levelPart-written-above : (c : ℕ) → c ≤ suc (s .last) → (i : ℕ) → c ≤ i → levelPart s parity i (withLevels s parity f c (set ws parity v)) ≡ levelPart s parity i ws
   levelPart-written-above c h i high = levelPart-withLevels-above s parity p f sized start start-size c h i high ∙ levelPart-set-total s parity i parity v ws (omega arith)
 
@@ -148,7 +148,7 @@ module _ (s : Shape) (parity : ℕ) (p : parity ≤ 1) (f : ℕ → List ℕ) (s
     parts = λ i low. levelPart-withLevels s parity p f sized start start-size (suc (s .last)) (omega arith) i (omega arith) ∙ parts i low;
   }
 
-  -- the other half is as it was
+  -- the other half does not change
   pub same-written : (other : ℕ) → other ≤ 1 → other ≢ parity → Same s other ws (withLevels s parity f (suc (s .last)) (set ws parity v))
   same-written other o apart = record {
     total = getD-withLevels-total s parity p f sized start start-size (suc (s .last)) (omega arith) other (omega arith) ∙ getD-set-other ws parity other v 0 apart;
@@ -159,7 +159,7 @@ module _ (s : Shape) (parity : ℕ) (p : parity ≤ 1) (f : ℕ → List ℕ) (s
 
 -- ---- the block that words stand for
 
--- a half that is as it was is still in its place
+-- a half that did not change is still in its place
 placed-same : (s : Shape) (parity : ℕ) (h : Half) (z : HalfSized s h) (ws new : List ℕ) → Placed s parity h z ws → Same s parity ws new → Placed s parity h z new
 placed-same s parity h z ws new w same = record { total = same .total ∙ w .total; parts = λ i low. same .parts i low ∙ w .parts i low }
 
@@ -173,7 +173,7 @@ module _ (s : Shape) (ws : List ℕ) (w : Whole s ws) (new : List ℕ) (size : l
   abbrev odd : HalfSized s (block .odd)
   odd = sound-sized s (block .odd) (soundBlock-decode s ws (w .sound) .1)
 
-  -- words that have one half in its place and the other as it was are the block with that half
+  -- words with one half in its place and the other unchanged are the block with that half
   pub encode-withHalf : (j : ℕ) (h : Half) (z : HalfSized s h) → Placed s (j % 2) h z new → Same s (1 - j % 2) ws new → new ≡ encodeBlock s (withHalf j h block)
   encode-withHalf j h z =
       let same = encode-decodeBlock s ws (w .sound) (w .size) in
@@ -183,13 +183,13 @@ module _ (s : Shape) (ws : List ℕ) (w : Whole s ws) (new : List ℕ) (size : l
       (λ e here kept. rw e (encodeBlock-placed s (record { even = block .even; odd = h }) even z new size
       (placed-same s 0 (block .even) even ws new (subst (λ (x : List ℕ). Placed s 0 (block .even) even x) same (encodeBlock-even s block even odd)) kept) here))
 
--- ---- halves emptied
+-- ---- emptying halves
 
 -- the words of level i of an empty half
 abbrev pub emptyWords : Shape → ℕ → List ℕ
 emptyWords s i = encodeLevel (s .n) (emptyLevel (s .k) i)
 
--- the words with the half of this parity emptied
+-- the words after the half of this parity was emptied
 unfoldable pub emptied : Shape → ℕ → List ℕ → List ℕ
 emptied s parity ws = withLevels s parity (emptyWords s) (suc (s .last)) (set ws parity 0)
 
@@ -217,7 +217,7 @@ module _ (s : Shape) (two : 2 ≤ s .n) where
     unfolding emptied
     emptied-same = same-written s parity p (emptyWords s) emptyWords-size ws size 0
 
-  -- both halves emptied
+  -- emptying both halves
   pub emptied-both : (ws : List ℕ) → length ws ≡ blockWords s → emptied s 1 (emptied s 0 ws) ≡ encodeBlock s (emptyBlock s)
   emptied-both ws size =
       let z = empty-sized in
@@ -236,12 +236,12 @@ module _ (s : Shape) (old new : ℕ) (b : Block) where
   abbrev to : ℕ
   to = interval s new
 
-  -- nothing within an interval
+  -- nothing if it stays in the interval
   pub advance-same : to ≡ from → advance s old new b ≡ b
   unfolding advance
   advance-same e = rw (empties-same from to 0 e, empties-same from to 1 e)
 
-  -- on entering the next interval its own half
+  -- the half of the next interval if it enters that
   pub advance-next : to ≡ from + 1 → advance s old new b ≡ withHalf to (emptyHalf s) b
   unfolding advance
   advance-next e =
@@ -249,7 +249,7 @@ module _ (s : Shape) (old new : ℕ) (b : Block) where
       (λ r. rw (empties-next from to 0 e (omega arith), empties-other from to 1 e (omega arith), r))
       (λ r. rw (empties-other from to 0 e (omega arith), empties-next from to 1 e (omega arith), r))
 
-  -- both on any other way
+  -- both otherwise
   pub advance-far : (to ≡ from → ⊥) → (to ≡ from + 1 → ⊥) → advance s old new b ≡ emptyBlock s
   unfolding advance
   advance-far x y = simp (ne-eqb to from x, ne-eqb to (from + 1) y)

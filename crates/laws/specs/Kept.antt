@@ -1,5 +1,5 @@
--- A sound level follows its own sums, and a level that follows any counts is sound; so what keeps the one keeps the other: a
--- delivery keeps a level sound. A level that has given buckets up is heavy. Assumes nothing.
+-- A sound level follows its own sums, and a level that follows any counts is sound. So a delivery, which keeps the one, keeps the other: a
+-- sound level stays sound. A level that has evicted buckets is heavy. Assumes nothing.
 use mathlib.Core.Logic.{_↔_, ⊎-elim}
 use mathlib.Core.Path.{_≡_, refl, sym, ap, _∙_, subst}
 use mathlib.Core.List.{List, [], _∷_}
@@ -53,7 +53,7 @@ each-of : {P : Bucket → Type 0} → ((b : Bucket) → P b) → (bs : List Buck
 each-of f [] = tt
 each-of f (b ∷ bs) = (f b, each-of f bs)
 
--- a single bucket, which has given none up, is the whole interval
+-- a single bucket of a level that has evicted none spans the whole interval
 many-or-whole : (k n i first : ℕ) (bs : List Bucket) → 2 ≤ n → (0 < first → length bs ≡ n) → Chained k i (length bs) first bs
     → Each (λ b. b .width < 2 ^ k → 2 ≤ length bs) bs
 many-or-whole k n i first [] two full g = tt
@@ -90,7 +90,7 @@ sound-tracks k n i total l two s =
 
 -- ---- and back
 
--- every bucket but the whole interval is heavy
+-- every bucket that does not span the whole interval is heavy
 chain-heavy : (p k : ℕ) (c : ℕ → ℕ) (a : ℕ) (bs : List Bucket) → 2 ≤ a + length bs → Chain p k c a bs → Each (λ b. p ≤ b .weight) bs
 chain-heavy p k c a [] h g = tt
 chain-heavy p k c a (b ∷ []) h g = (g .0 .heavy (omega arith), tt)
@@ -152,7 +152,7 @@ follows-heavy k zero c first bs h g = rising-heavy k first bs (g .0)
 follows-heavy k (suc j) c first bs h g = chain-heavy (2 ^ suc j) k c first bs h g
 
 module _ {k n i total : ℕ} {l : Level} (two : 2 ≤ n) where
-  -- a level that has given buckets up has n of weight 2 ^ i or more
+  -- a level that has evicted buckets has n of weight 2 ^ i or more
   pub tracks-heavy : {c : ℕ → ℕ} → Tracks k n i total c l → 0 < l .first → n * 2 ^ i ≤ weightOf (l .buckets)
   tracks-heavy {c} t h =
       let size = ap (λ (z : ℕ). z * 2 ^ i) (t .full h) in
@@ -161,6 +161,6 @@ module _ {k n i total : ℕ} {l : Level} (two : 2 ≤ n) where
   pub sound-heavy : SoundLevel k n i total l → 0 < l .first → n * 2 ^ i ≤ total
   sound-heavy s h = omega (arith, tracks-heavy (sound-tracks k n i total l two s) h, s .within)
 
-  -- so a small total leaves the level whole
+  -- so with a small total the level has evicted nothing
   pub sound-serves : SoundLevel k n i total l → total < n * 2 ^ i → l .first ≡ 0
   sound-serves s small = ⊎-elim (λ (z : l .first ≡ 0). z) (λ (h : 0 < l .first). absurd (omega (arith, sound-heavy s h))) (eq-zero-or-pos (l .first))

@@ -1,5 +1,5 @@
--- What stores and moves of words do to the words of a level: a field replaced, a bucket put in, the lowest bucket taken out.
--- Rests on the codec of a level and on moved words.
+-- What stores and moves of words do to the words of a level: replacing a field, putting a bucket in, taking the lowest bucket out. Rests on
+-- the codec of a level and on moved words.
 use mathlib.Core.Path.{_≡_, refl, sym, ap, _∙_}
 use mathlib.Core.List.{List, [], _∷_, _++_, append-assoc, append-nil}
 use Prim.Native.Nat.{ℕ, suc, _+_, _-_, _*_, _≤_, _<_}
@@ -13,16 +13,16 @@ use Rattle.model.specs.Words.{slot, encodeLevel, slotWords}
 use Rattle.laws.specs.LevelWords.{flat, blank, length-flat, flat-append, slot-at}
 use Rattle.laws.specs.Moves.{raise, lower, putSlot, putSlot-raise, putSlot-lower}
 
--- a store after the first list of two
+-- a store into the second of two lists
 set-append-add : (u ws : List ℕ) (i v : ℕ) → set (u ++ ws) (length u + i) v ≡ u ++ set ws i v
 set-append-add [] ws i v = rw zero-add
 set-append-add (x ∷ u) ws i v = rw (suc-add (length u) i) (ap (λ (z : List ℕ). x ∷ z) (set-append-add u ws i v))
 
--- the words of a level before its slot j, where `before` are the buckets there
+-- the words of a level before the slot that comes after the buckets `before`
 abbrev pub lead : ℕ → ℕ → List Bucket → List ℕ
 lead count f before = count ∷ f ∷ flat before
 
--- the words of a level, parted
+-- the words of a level, cut between two lists of buckets
 pub encode-append : (n f : ℕ) (before after : List Bucket)
     → encodeLevel n (levelOf f (before ++ after))
     ≡ lead (length before + length after) f before ++ (flat after ++ blank n (length before + length after))
@@ -32,17 +32,17 @@ encode-append n f before after = rw (length-append before after, flat-append bef
 -- ---- count and first
 
 module _ (n : ℕ) (l : Level) where
-  -- the count, read
+  -- reading the count
   pub getD-count : getD (encodeLevel n l) 0 0 ≡ length (l .buckets)
   unfolding encodeLevel
   getD-count = refl
 
-  -- F, read
+  -- reading F
   pub getD-first : getD (encodeLevel n l) 1 0 ≡ l .first
   unfolding encodeLevel
   getD-first = refl
 
-  -- F, written
+  -- writing F
   pub set-first : (v : ℕ) → set (encodeLevel n l) 1 v ≡ encodeLevel n (levelOf v (l .buckets))
   unfolding encodeLevel
   set-first v = refl
@@ -55,7 +55,7 @@ module _ (n f : ℕ) (before after : List Bucket) where
   wordsWith b = encodeLevel n (levelOf f (before ++ (b ∷ after)))
 
   module _ (j : ℕ) (place : length before ≡ j) where
-    -- slot j, read
+    -- reading slot j
     pub slot-encode : (b : Bucket) → slot (wordsWith b) j ≡ b
     slot-encode b =
         rw (encode-append n f before (b ∷ after)) (slot-at (lead _ f before) (flat after ++ blank n _) b j (omega (arith, length-flat before)))
@@ -70,7 +70,7 @@ module _ (n f : ℕ) (before after : List Bucket) where
         let e : slotStart j ≡ length u = omega (arith, length-flat before) in
         rw (encode-append n f before (b ∷ after), e, set-append-add u (slotWords b ++ rest) i v, stored rest) (sym (encode-append n f before (c ∷ after)))
 
-    -- one field of slot j, written
+    -- writing one field of slot j
     pub set-offset : (b : Bucket) (v : ℕ) → set (wordsWith b) (slotStart j) v ≡ wordsWith (bucketOf v (b .width) (b .weight))
     set-offset b v = rw add-zero at (set-slot 0 v b (bucketOf v (b .width) (b .weight)) (λ rest. refl))
 
@@ -80,13 +80,13 @@ module _ (n f : ℕ) (before after : List Bucket) where
     pub set-weight : (b : Bucket) (v : ℕ) → set (wordsWith b) (slotStart j + 2) v ≡ wordsWith (bucketOf (b .offset) (b .width) v)
     set-weight b v = set-slot 2 v b (bucketOf (b .offset) (b .width) v) (λ rest. refl)
 
-    -- all three words
+    -- writing all three words
     pub putSlot-encode : (b c : Bucket) → putSlot (wordsWith b) (slotStart j) c ≡ wordsWith c
     unfolding putSlot
     putSlot-encode b c =
         rw (set-offset b (c .offset), set-width (bucketOf (c .offset) (b .width) (b .weight)) (c .width)) (set-weight (bucketOf (c .offset) (c .width) (b .weight)) (c .weight))
 
-    -- a bucket put in at slot j of a level that is not full: the slots from j on move one up, and the count rises
+    -- putting a bucket into slot j of a level that is not full: the slots from j on move up by one, and the count rises
     pub insert-encode : (b : Bucket) (m count : ℕ) → slotLen * length after ≡ m → suc (length before + length after) ≡ count → count ≤ n
         → set (putSlot (raise (encodeLevel n (levelOf f (before ++ after))) (slotStart j) m) (slotStart j) b) 0 count ≡ wordsWith b
     insert-encode b m count moved one-more room =
@@ -110,7 +110,7 @@ module _ (n f : ℕ) (before after : List Bucket) where
         rw count-is at (encode-append n f before (b ∷ after)) in
         rw (words, putSlot-raise ws a m b fits, top, upper, take-at u (flat after ++ (free ++ rest)) a start, take-at (flat after) (free ++ rest) m size) (sym new)
 
-    -- a bucket put in at slot j once the lowest bucket is taken out: the slots up to j move one down, and the count stays
+    -- putting a bucket into slot j after the lowest was taken out: the slots up to j move down by one, and the count stays
     pub shift-encode : (lowest b : Bucket) → putSlot (lower (encodeLevel n (levelOf f (lowest ∷ (before ++ after)))) levelHeadLen (slotLen * j)) (slotStart j) b ≡ wordsWith b
     shift-encode lowest b =
         let count : ℕ = suc (length before) + length after in
@@ -124,14 +124,14 @@ module _ (n f : ℕ) (before after : List Bucket) where
         (sym (rw count-is at (encode-append n f before (b ∷ after))))
 
 module _ (n f : ℕ) (bs : List Bucket) (j : ℕ) (place : length bs ≡ j) (room : j < n) where
-  -- a last bucket of zeros, no longer counted
+  -- lowering the count drops a last bucket of zeros
   clear-encode : set (encodeLevel n (levelOf f (bs ++ (bucketOf 0 0 0 ∷ [])))) 0 j ≡ encodeLevel n (levelOf f bs)
   unfolding encodeLevel
   clear-encode =
       let unused : slotLen * (n - length bs) ≡ suc (suc (suc (slotLen * (n - (length bs + 1))))) = omega arith in
       ap (λ (z : List ℕ). set z 0 j) (encode-append n f bs (bucketOf 0 0 0 ∷ [])) ∙ rw (unused, place)
 
-  -- the lowest bucket taken out: every other slot moves one down, the last is cleared, and the count falls
+  -- taking the lowest bucket out: every other slot moves down by one, the last is cleared, and the count falls
   pub evict-encode : (lowest : Bucket)
       → set (putSlot (lower (encodeLevel n (levelOf f (lowest ∷ bs))) levelHeadLen (slotLen * j)) (slotStart j) (bucketOf 0 0 0)) 0 j ≡ encodeLevel n (levelOf f bs)
   evict-encode lowest =

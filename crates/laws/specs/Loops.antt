@@ -1,4 +1,4 @@
--- A test of every number from i on, as a loop goes through it: what is left of it at i, of c. Assumes nothing.
+-- A test of all numbers below c, as a loop makes it: what is left to test at i. Assumes nothing.
 use mathlib.Core.Bool.{Bool, true, _&&_}
 use mathlib.Core.Path.{_≡_, ap}
 use Prim.Native.Nat.{ℕ, suc, _+_, _-_, _≤_, _<_}
@@ -8,7 +8,7 @@ use native.Mathlib.Omega.{arith}
 use Rattle.model.specs.Sound.{allFrom}
 
 module _ (p : ℕ → Bool) where
-  -- what is left at i
+  -- the tests that are left at i
   abbrev pub allLeft : ℕ → ℕ → Bool
   allLeft i c = allFrom p i (c - i)
 

@@ -1,4 +1,4 @@
--- Words moved by one slot, up and down, and the words of one slot stored: what the loops and stores of the code leave. Rests on lists alone.
+-- Moving words up or down by one slot, and storing the words of one slot: what the loops and stores of the code leave. Rests on lists alone.
 use mathlib.Core.Path.{_≡_, ap, _∙_}
 use mathlib.Core.List.{List, _++_, append-assoc}
 use Prim.Native.Nat.{ℕ, suc, _+_, _-_, _≤_, _<_}
@@ -11,15 +11,15 @@ use Rattle.shape.specs.Layout.{slotLen}
 use Rattle.model.specs.Level.{Bucket}
 use Rattle.model.specs.Words.{slotWords}
 
--- m words from a on, written again one slot above
+-- m words, from a on, moved up by one slot
 unfoldable pub raise : List ℕ → ℕ → ℕ → List ℕ
 raise ws a m = paste ws (a + slotLen) (drop a ws) m
 
--- m words from a + 3 on, written again one slot below
+-- m words, from one slot after a on, moved down by one slot
 unfoldable pub lower : List ℕ → ℕ → ℕ → List ℕ
 lower ws a m = paste ws a (drop (a + slotLen) ws) m
 
--- the words of a bucket stored from a on
+-- storing the words of a bucket from a on
 unfoldable pub putSlot : List ℕ → ℕ → Bucket → List ℕ
 putSlot ws a b = set (set (set ws a (b .offset)) (a + 1) (b .width)) (a + 2) (b .weight)
 
@@ -28,7 +28,7 @@ pub putSlot-is : (ws : List ℕ) (a : ℕ) (b : Bucket) → a + slotLen ≤ leng
 unfolding putSlot
 putSlot-is ws a b h = rw (add-one a, add-two a) (sets-eq (slotWords b) ws a h)
 
--- the length stays
+-- the number of words stays
 pub length-putSlot : (ws : List ℕ) (a : ℕ) (b : Bucket) → length (putSlot ws a b) ≡ length ws
 unfolding putSlot
 length-putSlot ws a b = simp length-set
@@ -40,13 +40,13 @@ pub lower-none : (ws : List ℕ) (a : ℕ) → ws ≡ lower ws a 0
 unfolding lower
 lower-none ws a = paste-zero ws a (drop (a + slotLen) ws)
 
--- the length stays
+-- the number of words stays
 pub length-lower : (ws : List ℕ) (a m : ℕ) → a + slotLen + m ≤ length ws → length (lower ws a m) ≡ length ws
 unfolding lower
 length-lower ws a m h = length-paste ws a (drop (a + slotLen) ws) m (omega arith) (simp length-drop (omega arith))
 
 module _ (ws : List ℕ) (a i : ℕ) (h : a + slotLen + i < length ws) where
-  -- the word to move stands where it stood
+  -- the word to move has not changed yet
   pub lower-read : getD (lower ws a i) (a + slotLen + i) 0 ≡ getD (drop (a + slotLen) ws) i 0
   unfolding lower
   lower-read =
@@ -63,7 +63,7 @@ module _ (ws : List ℕ) (a i : ℕ) (h : a + slotLen + i < length ws) where
 
 -- ---- the loop that raises: i words are left to move
 
--- all but the lowest i of m words from a on, written again one slot above
+-- all but the lowest i of m words, from a on, moved up by one slot
 unfoldable pub raisedFrom : List ℕ → ℕ → ℕ → ℕ → List ℕ
 raisedFrom ws a m i = raise ws (a + i) (m - i)
 
@@ -77,12 +77,12 @@ pub raise-all : (ws : List ℕ) (a m : ℕ) → raisedFrom ws a m 0 ≡ raise ws
 unfolding raisedFrom
 raise-all ws a m = let e : m - 0 ≡ m = omega arith in rw (e, add-zero)
 
--- the length stays
+-- the number of words stays
 pub length-raise : (ws : List ℕ) (a m : ℕ) → a + slotLen + m ≤ length ws → length (raise ws a m) ≡ length ws
 unfolding raise
 length-raise ws a m h = length-paste ws (a + slotLen) (drop a ws) m h (simp length-drop (omega arith))
 
--- a store before pasted words takes one word more into them
+-- storing the word before pasted words makes them one word longer
 paste-back : (ws rest : List ℕ) (a m : ℕ) → a + slotLen < length ws
     → set (take (suc (a + slotLen)) ws ++ take m (drop (suc a) ws) ++ rest) (a + slotLen) (getD ws a 0) ≡ take (a + slotLen) ws ++ take (suc m) (drop a ws) ++ rest
 paste-back ws rest a m h =
@@ -93,7 +93,7 @@ paste-back ws rest a m h =
     (simp append-assoc (set-at front (getD ws (a + slotLen) 0) (moved ++ rest) (getD ws a 0) (a + slotLen) (length-take-le (a + slotLen) ws (omega arith))))
 
 module _ (ws : List ℕ) (a m i : ℕ) (h : a + slotLen + m ≤ length ws) (l : i < m) where
-  -- the word at a + i stands where it stood
+  -- the word at a + i has not changed yet
   pub raise-read : getD (raisedFrom ws a m (i + 1)) (a + i) 0 ≡ getD ws (a + i) 0
   unfolding raisedFrom raise
   raise-read =
@@ -114,10 +114,10 @@ module _ (ws : List ℕ) (a m i : ℕ) (h : a + slotLen + m ≤ length ws) (l : 
       ap (set (raisedFrom ws a m (i + 1)) (a + slotLen + i)) raise-read
       ∙ rw (e5, e1, e2, e3, e4) (paste-back ws (drop (a + i + slotLen + suc (m - (i + 1))) ws) (a + i) (m - (i + 1)) (omega arith))
 
--- ---- a slot stored where words moved away
+-- ---- storing a slot where words moved away
 
 module _ (ws : List ℕ) (a m : ℕ) (b : Bucket) (h : a + slotLen + m ≤ length ws) where
-  -- into the gap that raising opens
+  -- into the gap after moving up
   pub putSlot-raise : putSlot (raise ws a m) a b ≡ take a ws ++ (slotWords b ++ (take m (drop a ws) ++ drop (a + slotLen + m) ws))
   unfolding raise
   putSlot-raise =
@@ -129,7 +129,7 @@ module _ (ws : List ℕ) (a m : ℕ) (b : Bucket) (h : a + slotLen + m ≤ lengt
       putSlot-is (raise ws a m) a b (omega (arith, length-raise ws a m h))
       ∙ rw (parts, below, drop-at front rest (a + slotLen) size) (append-assoc (take a ws) (slotWords b) rest)
 
-  -- after what lowering has moved
+  -- after the words that moved down
   pub putSlot-lower : putSlot (lower ws a m) (a + m) b ≡ take a ws ++ (take m (drop (a + slotLen) ws) ++ (slotWords b ++ drop (a + m + slotLen) ws))
   unfolding lower
   putSlot-lower =

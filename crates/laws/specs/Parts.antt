@@ -1,4 +1,5 @@
--- Lists made of parts of one size: their length, one part, one part replaced; and what holds of each number from i on. Rests on lists alone.
+-- Lists made of parts of one size: their length, reading one part, replacing one part; and what holds of each number from i on. Rests on
+-- lists alone.
 use mathlib.Core.Bool.{Bool, true, cond}
 use mathlib.Core.Path.{_≡_, refl, sym, ap, _∙_}
 use mathlib.Core.Logic.{_≢_, _⊎_, ⊎-elim, ⊎-map}
@@ -16,7 +17,7 @@ use Rattle.model.specs.Words.{join}
 use Rattle.model.specs.Sound.{allFrom}
 use Rattle.laws.specs.Cases.{lt-or-ge, and-true}
 
--- P holds of i, i + 1 and so on, c numbers
+-- P holds of the c numbers i, i + 1, ..
 abbrev pub Each : ℕ → ℕ → (ℕ → Type 0) → Type 0
 Each i c P = (j : ℕ) → i ≤ j → j < i + c → P j
 
@@ -54,7 +55,7 @@ module _ (p : ℕ → Bool) where
 -- ---- upFrom
 
 module _ {A : Type 0} (f : ℕ → A) where
-  -- as many values as asked for
+  -- there are c values
   pub length-upFrom : (i c : ℕ) → length (upFrom f i c) ≡ c
   length-upFrom i zero = refl
   length-upFrom i (suc c) = ap suc (length-upFrom (suc i) c)
@@ -98,7 +99,7 @@ join-append [] ys = refl
 join-append (x ∷ xs) ys = rw (join-append xs ys) (sym (append-assoc x (join xs) (join ys)))
 
 module _ (i c d j : ℕ) (place : i + d ≡ j) (inside : d < c) where
-  -- what stands before part j, the part, and what stands after
+  -- what comes before part j, the part, and what comes after
   pub join-parted : (f : ℕ → List ℕ) (rest : List ℕ)
       → join (upFrom f i c) ++ rest ≡ join (upFrom f i d) ++ (f j ++ (join (upFrom f (suc j) (c - suc d)) ++ rest))
   join-parted f rest =
@@ -108,7 +109,7 @@ module _ (i c d j : ℕ) (place : i + d ≡ j) (inside : d < c) where
       rw (parts, join-append) (simp append-assoc)
 
 module _ (f : ℕ → List ℕ) (size : ℕ) where
-  -- c parts of one size
+  -- the length of c parts of one size
   pub length-join : (i c : ℕ) → Each i c (λ j. length (f j) ≡ size) → length (join (upFrom f i c)) ≡ c * size
   length-join i zero e = sym (zero-mul size)
   length-join i (suc c) e =
@@ -129,12 +130,12 @@ module _ (f : ℕ → List ℕ) (size : ℕ) where
     length-part : length (f j) ≡ size
     length-part = sized j (omega arith) (omega arith)
 
-    -- part j is read
+    -- reading part j
     pub take-drop-join : take size (drop (d * size) (join (upFrom f i c) ++ rest)) ≡ f j
     take-drop-join =
         rw (join-parted i c d j place inside f rest, drop-at before (f j ++ after) (d * size) length-before) (take-at (f j) after size length-part)
 
-    -- part j is replaced
+    -- replacing part j
     pub withPart-join : (x : List ℕ)
         → withPart (d * size) size x (join (upFrom f i c) ++ rest) ≡ join (upFrom (λ t. cond (eqb t j) x (f t)) i c) ++ rest
     withPart-join x =
@@ -157,18 +158,18 @@ join-consecutive size start ws i (suc c) =
     let count : suc c * size ≡ size + c * size = omega (arith, suc-mul c size) in
     rw (join-consecutive size start ws (suc i) c, next, count, take-add size (c * size)) (rw drop-drop)
 
--- words one by one
+-- a stretch of words, one by one
 pub take-upFrom : (ws : List ℕ) (i c : ℕ) → i + c ≤ length ws → take c (drop i ws) ≡ upFrom (λ j. getD ws j 0) i c
 take-upFrom ws i zero h = refl
 take-upFrom ws i (suc c) h = rw (drop-cons ws i 0 (omega arith)) (ap (λ (z : List ℕ). getD ws i 0 ∷ z) (take-upFrom ws (suc i) c (omega arith)))
 
--- ---- one part of any words replaced
+-- ---- replacing one part of any words
 
--- a part put back where it stood
+-- putting a part back changes nothing
 pub withPart-same : (a n : ℕ) (ws : List ℕ) → withPart a n (take n (drop a ws)) ws ≡ ws
 withPart-same a n ws = rw (← drop-drop n a ws, take-append-drop n (drop a ws)) (take-append-drop a ws)
 
--- the first word of the rest
+-- the first word after i words
 getD-first : (i : ℕ) (ws : List ℕ) (d : ℕ) → getD (drop i ws) 0 d ≡ getD ws i d
 getD-first i ws d = rw add-zero at (getD-drop i ws 0 d)
 
@@ -180,15 +181,15 @@ module _ (a n : ℕ) (x ws : List ℕ) (fits : a + n ≤ length ws) (size : leng
   length-low : length (take a ws) ≡ a
   length-low = length-take-le a ws (omega arith)
 
-  -- the length stays
+  -- the number of words stays
   pub length-withPart : length (withPart a n x ws) ≡ length ws
   length-withPart = simp (length-append, length-drop) (omega (arith, length-low))
 
-  -- the part itself
+  -- the new part is there
   pub take-drop-withPart : take n (drop a (withPart a n x ws)) ≡ x
   take-drop-withPart = rw (drop-at (take a ws) (x ++ drop (a + n) ws) a length-low) (take-at x (drop (a + n) ws) n size)
 
-  -- what stands below and above it
+  -- what is below and above it stays
   pub take-withPart : (b : ℕ) → b ≤ a → take b (withPart a n x ws) ≡ take b ws
   take-withPart b low =
       take-append-le b (take a ws) (x ++ drop (a + n) ws) (omega (arith, length-low)) ∙ take-take b a ws low
@@ -201,7 +202,7 @@ module _ (a n : ℕ) (x ws : List ℕ) (fits : a + n ≤ length ws) (size : leng
       rw (← append-assoc (take a ws) x (drop (a + n) ws)) (drop-at p (drop (a + n) ws) (a + n) (simp length-append (omega (arith, length-low)))) in
       rw (place, ← drop-drop (b - (a + n)) (a + n) (withPart a n x ws), above) (drop-drop (b - (a + n)) (a + n) ws)
 
-  -- a word below or above it
+  -- a word below or above it stays
   pub getD-withPart-below : (i d : ℕ) → i < a → getD (withPart a n x ws) i d ≡ getD ws i d
   getD-withPart-below i d low =
       sym (getD-take (suc i) (withPart a n x ws) i d (omega arith)) ∙ ap (λ (z : List ℕ). getD z i d) (take-withPart (suc i) low) ∙ getD-take (suc i) ws i d (omega arith)
@@ -210,7 +211,7 @@ module _ (a n : ℕ) (x ws : List ℕ) (fits : a + n ≤ length ws) (size : leng
   getD-withPart-above i d high =
       sym (getD-first i (withPart a n x ws) d) ∙ ap (λ (z : List ℕ). getD z 0 d) (drop-withPart i high) ∙ getD-first i ws d
 
-  -- another part
+  -- another part stays
   part-below : (b m : ℕ) → b + m ≤ a → take m (drop b (withPart a n x ws)) ≡ take m (drop b ws)
   part-below b m low =
       sym (drop-take b m (withPart a n x ws) (omega (arith, length-withPart))) ∙ ap (drop b) (take-withPart (b + m) low) ∙ drop-take b m ws (omega arith)

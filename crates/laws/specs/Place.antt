@@ -1,5 +1,5 @@
--- The slot at which an offset falls: the buckets before it end at or before the offset, and the one there ends past it. Where the ends
--- rise, as they do in a sound level, each bucket tells on which side of it that slot is. Assumes nothing.
+-- The slot of an offset: the buckets before it end at or before the offset, and the one there ends after it. If the ends rise, as they do in
+-- a sound level, each bucket shows on which side of it that slot is. Assumes nothing.
 use mathlib.Core.Bool.{cond}
 use mathlib.Core.List.{List, [], _∷_, _++_}
 use mathlib.Core.Path.{_≡_}
@@ -34,7 +34,7 @@ place-take x (b ∷ bs) = by-lt x (b .offset + b .width) (λ j. Ended x (take j 
 abbrev pub endOf : Bucket → ℕ
 endOf b = b .offset + b .width
 
-abbrev pub EndsRise : ℕ → List Bucket → Type 0  -- each bucket ends at a or past it, and no sooner than the one before
+abbrev pub EndsRise : ℕ → List Bucket → Type 0  -- each bucket ends at or after a, and not before the one before it
 EndsRise a [] = Unit
 EndsRise a (b ∷ bs) = (a ≤ endOf b) × EndsRise (endOf b) bs
 
@@ -48,26 +48,26 @@ chained-rises : (k i count a f : ℕ) (bs : List Bucket) → a ≤ f → Chained
 chained-rises k i count a f [] h c = tt
 chained-rises k i count a f (b ∷ bs) h c = (omega (arith, c .0 .at), chained-rises k i count (endOf b) (endOf b) bs (omega arith) (c .1))
 
--- at level 0 each bucket stands above the last, at the others it starts where the last one ended
+-- the ends of a sound level rise: at level 0 each bucket is above the one before, at the others it starts where that one ends
 pub sound-rises : (k i f : ℕ) (bs : List Bucket) → SoundBuckets k i f bs → EndsRise 0 bs
 sound-rises k zero f bs s = rising-rises k 0 f bs (omega arith) (s .1)
 sound-rises k (suc j) f bs s = chained-rises k (suc j) (length bs) 0 f bs (omega arith) (s .1)
 
--- `none` stands for a bucket past the end, where there is no such place
+-- `none` is the default for a slot without a bucket
 module _ (none : Bucket) where
   rises-at : (a : ℕ) (bs : List Bucket) (m : ℕ) → m < length bs → EndsRise a bs → a ≤ endOf (getD bs m none)
   rises-at a [] m h r = absurd (omega arith)
   rises-at a (b ∷ bs) zero h r = r .0
   rises-at a (b ∷ bs) (suc m) h r = omega (arith, r .0, rises-at (endOf b) bs m (omega arith) (r .1))
 
-  -- one bucket that ends past x bounds the place
+  -- a bucket that ends after x bounds the slot of x from above
   pub place-most : (x : ℕ) (bs : List Bucket) (m : ℕ) → m < length bs → x < endOf (getD bs m none) → place x bs ≤ m
   place-most x [] m h past = absurd (omega arith)
   place-most x (b ∷ bs) zero h past = by-lt x (endOf b) (λ j. j ≤ 0) (λ _. omega arith) (λ ended. absurd (omega arith))
   place-most x (b ∷ bs) (suc m) h past =
       by-lt x (endOf b) (λ j. j ≤ suc m) (λ _. omega arith) (λ _. omega (arith, place-most x bs m (omega arith) past))
 
-  -- and where the ends rise, so does one that does not
+  -- if the ends rise, a bucket that ends at or before x bounds it from below
   pub place-least : (x a : ℕ) (bs : List Bucket) (m : ℕ) → EndsRise a bs → m < length bs → endOf (getD bs m none) ≤ x → m < place x bs
   place-least x a [] m r h ended = absurd (omega arith)
   place-least x a (b ∷ bs) zero r h ended =
@@ -77,7 +77,7 @@ module _ (none : Bucket) where
       (λ past. absurd (omega (arith, rises-at (endOf b) bs m (omega arith) (r .1))))
       (λ _. omega (arith, place-least x (endOf b) bs m (r .1) (omega arith) ended))
 
--- `none` stands for a bucket past the end, where there is no such place
+-- `none` is the default for a slot without a bucket
 module _ (x : ℕ) (none : Bucket) where
   pub place-here : (bs : List Bucket) → place x bs < length bs → x < getD bs (place x bs) none .offset + getD bs (place x bs) none .width
   place-here [] = λ h. absurd (omega arith)
@@ -91,13 +91,13 @@ module _ (x : ℕ) (none : Bucket) where
       → bs ≡ take (place x bs) bs ++ (getD bs (place x bs) none ∷ drop (suc (place x bs)) bs)
   place-split bs h = split-at bs (place x bs) none h
 
--- the bucket at a place is that of its slot
+-- bucket m of the list is that of its slot
 pub slots-getD : (ws : List ℕ) (j c m : ℕ) (none : Bucket) → m < c → getD (slots ws j c) m none ≡ slot ws (j + m)
 slots-getD ws j zero m none h = absurd (omega arith)
 slots-getD ws j (suc c) zero none h = rw (add-zero j)
 slots-getD ws j (suc c) (suc m) none h = let e : j + suc m ≡ j + 1 + m = omega arith in rw e (slots-getD ws (j + 1) c m none (omega arith))
 
--- so the bucket of a slot tells whether the place among all is past it
+-- so the bucket of a slot shows whether the slot of x comes after it
 module _ (ws : List ℕ) (x m : ℕ) (h : m < getD ws 0 0) where
   here : getD (slots ws 0 (getD ws 0 0)) m (slot ws m) ≡ slot ws m
   here = let e : 0 + m ≡ m = omega arith in rw e at (slots-getD ws 0 (getD ws 0 0) m (slot ws m) h)

@@ -1,4 +1,4 @@
--- A test and the fact that it stands for, for each way to build a test. Assumes nothing.
+-- A test and the fact that it decides, for each way to build a test. Assumes nothing.
 use mathlib.Core.Bool.{Bool, true, false, _&&_, _||_}
 use mathlib.Core.Path.{_≡_, refl, sym}
 use mathlib.Core.Logic.{_↔_, _⊎_, inl, inr}
@@ -10,14 +10,14 @@ use Rattle.shape.specs.LimitsLaws.{both}
 use Rattle.model.specs.Sound.{implies}
 use Rattle.laws.specs.Cases.{and-true}
 
--- the test b is true just where P holds
+-- the test b is true exactly if P holds
 abbrev pub Tests : Bool → Type 0 → Type 0
 Tests b P = (b ≡ true) ↔ P
 
 pub tests-same : {b : Bool} {P Q : Type 0} → Tests b P → (P → Q) → (Q → P) → Tests b Q
 tests-same f to from = (λ e. to (f .0 e), λ q. f .1 (from q))
 
--- two tests of the same fact are one
+-- two tests of the same fact are equal
 pub tests-equal : {a b : Bool} {P : Type 0} → Tests a P → Tests b P → a ≡ b
 tests-equal {a} {b} {P} f g = go a b (λ e. g .1 (f .0 e)) (λ e. f .1 (g .0 e))
   where
@@ -41,7 +41,7 @@ never e = absurd (let z : _≡_ {A = ℕ} 0 1 = cc in omega arith)
 pub and-tests : {a b : Bool} {P Q : Type 0} → Tests a P → Tests b Q → Tests (a && b) (P × Q)
 and-tests f g = (λ e. let p = both e in (f .0 (p .0), g .0 (p .1)), λ q. and-true (f .1 (q .0)) (g .1 (q .1)))
 
--- one test more, between the first and the others
+-- one more test, between the first and the others
 pub and-between : (a t b : Bool) {P : Type 0} → Tests (a && b) P → Tests (a && (t && b)) ((t ≡ true) × P)
 and-between true true b f = (λ e. (refl, f .0 e), λ q. f .1 (q .1))
 and-between true false b f = (λ e. never e, λ q. q .0)

@@ -1,4 +1,4 @@
--- Level 0: single offsets, rising. What a decilitre does to such a list. Assumes nothing.
+-- Level 0: buckets of single, rising offsets, and what a decilitre does to such a list. Assumes nothing.
 use mathlib.Core.Path.{_≡_, refl, ap}
 use mathlib.Core.List.{List, [], _∷_}
 use Prim.Native.Nat.{ℕ, suc, _+_, _^_, _≤_, _<_}
@@ -10,14 +10,14 @@ use Rattle.model.specs.Sound.{weightOf}
 use Rattle.laws.specs.Cases.{by-lt, by-eq}
 use Rattle.laws.specs.Tally.{share, share-suc, share-none, AtLeast}
 
--- a bucket of level 0, which stands at a or above
+-- a bucket of level 0, at offset a or above
 pub record Single (k a : ℕ) (b : Bucket) : Type 0 where
   pub low : a ≤ b .offset
   pub high : b .offset < 2 ^ k
   pub one : b .width ≡ 1
   pub some : 1 ≤ b .weight
 
--- each offset is above the last, the first at a or above
+-- each offset is above the one before, and the first is at least a
 abbrev pub Rising : ℕ → ℕ → List Bucket → Type 0
 Rising k a [] = Unit {0}
 Rising k a (b ∷ bs) = Single k a b × Rising k (b .offset + 1) bs
@@ -26,7 +26,7 @@ pub rising-above : (k t a : ℕ) (bs : List Bucket) → t ≤ a → Rising k a b
 rising-above k t a [] h r = tt
 rising-above k t a (b ∷ bs) h r = (omega (arith, r .0 .low), rising-above k t (b .offset + 1) bs (omega (arith, r .0 .low)) (r .1))
 
--- the buckets above the first one count alone, above its offset
+-- above the first bucket's offset only the other buckets count
 pub sumFrom-past : (b : Bucket) (bs : List Bucket) (t : ℕ) → b .offset < t → sumFrom t (b ∷ bs) ≡ sumFrom t bs
 sumFrom-past b bs t h = omega (arith, share-none (b .offset) (b .weight) t h)
 

@@ -1,5 +1,5 @@
--- One round of insertion: a bucket put in and the lowest given up where there is no room, on words; and what a split leaves at a
--- level from 1, in which the rest goes on. Rests on the steps of `Batch` and the writes of `LevelWrites`.
+-- One round of insertion on words: a bucket is put in, and the lowest is evicted if there is no room; and what a split leaves at a level
+-- from 1, into which the rest goes. Rests on the steps of `Batch` and the writes of `LevelWrites`.
 use mathlib.Core.Bool.{cond}
 use mathlib.Core.Logic.{⊎-elim}
 use mathlib.Core.Path.{_≡_, refl, ap, _∙_}
@@ -22,14 +22,14 @@ use Rattle.laws.specs.SoundFacts.{SoundBucket, Chained}
 use Rattle.laws.specs.Place.{place}
 use Rattle.laws.specs.LevelWrites.{getD-count, set-first, insert-encode, shift-encode}
 
--- ---- a bucket put in
+-- ---- putting a bucket in
 
--- where the first of the buckets stands
+-- the offset of the first bucket
 abbrev pub headOffset : List Bucket → ℕ
 headOffset [] = 0
 headOffset (b ∷ bs) = b .offset
 
--- its word in the level
+-- it is a word of the level
 word-blank : (c i : ℕ) → _≡_ {A = ℕ} (getD (replicate c 0) i 0) 0
 word-blank zero i = refl
 word-blank (suc c) zero = refl
@@ -40,7 +40,7 @@ unfolding encodeLevel
 getD-head n f [] = word-blank (slotLen * (n - 0)) 0
 getD-head n f (b ∷ bs) = refl
 
--- F once bucket b is given up, by the word of the next one
+-- F after bucket b was evicted, by the word of the next one
 pub first-after : (i : ℕ) (b : Bucket) (bs : List Bucket) → (0 < i → 0 < length bs)
     → cond (eqb i 0) (b .offset + 1) (headOffset bs) ≡ firstAfter i b bs
 first-after zero b bs some = refl
@@ -52,7 +52,7 @@ pub count-parts : (n f : ℕ) (before after : List Bucket) (ws : List ℕ) → w
 count-parts n f before after ws held = ap (λ (z : List ℕ). getD z 0 0) held ∙ getD-count n (levelOf f (before ++ after)) ∙ length-append before after
 
 module _ (n i f : ℕ) (b : Bucket) (after : List Bucket) where
-  -- there is room: the slots from j on move one up
+  -- with room: the slots from j on move up by one
   pub put-room : (before : List Bucket) (j count : ℕ) → length before ≡ j → count ≡ length before + length after → count < n
       → set (putSlot (raise (encodeLevel n (levelOf f (before ++ after))) (slotStart j) (slotLen * (count - j))) (slotStart j) b) 0 (count + 1)
       ≡ encodeLevel n (evict n i f (before ++ b ∷ after))
@@ -61,12 +61,12 @@ module _ (n i f : ℕ) (b : Bucket) (after : List Bucket) where
       rw (evict-none n i f (before ++ b ∷ after) few)
       (insert-encode n f before after j place b (slotLen * (count - j)) (count + 1) (omega arith) (omega arith) (omega arith))
 
-  -- there is none, and the bucket would be the lowest: only F changes
+  -- without room, if the bucket would be the lowest: only F changes
   pub put-lowest : length after ≡ n → (0 < i → 0 < length after)
       → set (encodeLevel n (levelOf f after)) 1 (cond (eqb i 0) (b .offset + 1) (headOffset after)) ≡ encodeLevel n (evict n i f (b ∷ after))
   put-lowest full some = rw (evict-lowest n i f b after full, first-after i b after some) (set-first n (levelOf f after) _)
 
-  -- there is none: the lowest goes, and the slots up to the bucket's move one down
+  -- without room otherwise: the lowest is evicted, and the slots up to the new bucket's move down by one
   pub put-shift : (lowest : Bucket) (before : List Bucket) (j : ℕ) → length before ≡ j → suc (length before + length after) ≡ n
       → set (putSlot (lower (encodeLevel n (levelOf f (lowest ∷ (before ++ after)))) levelHeadLen (slotLen * j)) (slotStart j) b) 1
       (cond (eqb i 0) (lowest .offset + 1) (headOffset (before ++ b ∷ after)))
@@ -78,7 +78,7 @@ module _ (n i f : ℕ) (b : Bucket) (after : List Bucket) where
 
 -- ---- a level from 1
 
--- every bucket of the list ends at x or before
+-- every bucket of the list ends at or before x
 abbrev pub Passed : ℕ → List Bucket → Type 0
 Passed x = Each (λ b. b .offset + b .width ≤ x)
 
@@ -90,7 +90,7 @@ pub passed-snoc : (x : ℕ) (bs : List Bucket) (b : Bucket) → Passed x bs → 
 passed-snoc x [] b p h = (h, tt)
 passed-snoc x (c ∷ bs) b p h = (p .0, passed-snoc x bs b (p .1) h)
 
--- what a split leaves, and the slot of the upper half: both halves are there, or the lower one was the lowest and went
+-- what a split leaves, and the slot of the upper half: both halves are there, or the lower one was the lowest and was evicted
 pub data Round (n x : ℕ) (lo hi : Bucket) (after : List Bucket) (up : ℕ) (l : Level) : Type 0 where
   both : (f : ℕ) (before : List Bucket) → l ≡ levelOf f (before ++ lo ∷ hi ∷ after) → suc (length before) ≡ up
       → length before + suc (suc (length after)) ≤ n → Passed x before → f ≤ x → Round n x lo hi after up l
@@ -114,21 +114,21 @@ module _ (n x f : ℕ) (kept : f ≤ x) where
     all-few : length (before ++ b ∷ after) ≤ n
     all-few = simp length-append (omega arith)
 
-    -- the bucket that x falls into takes v, where that does not fill it
+    -- the bucket that spans x takes v, if that does not fill it
     pub upper-held : (i : ℕ) → 0 < i → (v : ℕ) → (1 < b .width → b .weight + v < 2 ^ suc i)
         → insert n i x v (levelOf f (before ++ b ∷ after)) ≡ levelOf f (before ++ raised v b ∷ after)
     upper-held zero h v room = absurd (omega arith)
     upper-held (suc j) h v room =
         insert-held n j x f kept before (passed-uncovered x before passed) b after (holds-inside b x low high) all-few v room
 
-    -- or is split, and the rest goes on
+    -- otherwise it is split, and the rest goes on
     pub upper-split : (i : ℕ) → 0 < i → (v : ℕ) → 1 < b .width → b .weight < 2 ^ suc i → 2 ^ suc i ≤ b .weight + v
         → insert n i x v (levelOf f (before ++ b ∷ after)) ≡ insert n i x (b .weight + v - 2 ^ suc i) (evict n i f (before ++ (halves i b ++ after)))
     upper-split zero h v long small full = absurd (omega arith)
     upper-split (suc j) h v long small full =
         insert-split n j x f kept before (passed-uncovered x before passed) b after (holds-inside b x low high) all-few v long small full
 
-    -- in what the split leaves
+    -- what the split leaves
     pub one-round : (i : ℕ) → 0 < i → (lo hi : Bucket) → lo .offset ≤ x
         → Round n x lo hi after (cond (ltb (length before + suc (length after)) n) (length before + 1) (length before)) (evict n i f (before ++ lo ∷ hi ∷ after))
     one-round zero h lo hi below = absurd (omega arith)
@@ -141,14 +141,14 @@ module _ (n x f : ℕ) (kept : f ≤ x) where
         (λ (none : n ≤ count). rw (le-ltb count n none) (full-round j lo hi below after before passed (omega arith)))
         (lt-or-ge count n)
 
--- ---- where an offset falls
+-- ---- the slot of an offset
 
--- the first bucket of the list, if there is one, ends past x
+-- the first bucket of the list, if there is one, ends after x
 abbrev pub Ends : ℕ → List Bucket → Type 0
 Ends x [] = Unit {0}
 Ends x (b ∷ bs) = x < b .offset + b .width
 
--- the buckets parted before slot j
+-- the buckets before slot j, and those from it on
 pub record Placed (x : ℕ) (bs : List Bucket) (j : ℕ) : Type 0 where
   pub before : List Bucket
   pub after : List Bucket
@@ -173,7 +173,7 @@ place-parts x (b ∷ bs) =
       ends = rest .ends;
     })
 
--- a level from 1: the first bucket that ends past x covers it
+-- a level from 1: the first bucket that ends after x spans it
 pub record Covering (k i count x : ℕ) (after : List Bucket) : Type 0 where
   pub here : Bucket
   pub rest : List Bucket
@@ -191,7 +191,7 @@ chained-covering k i count x inside (b ∷ after) ends start [] l p g =
 chained-covering k i count x inside after ends start (c ∷ before) l p g =
     chained-covering k i count x inside after ends (c .offset + c .width) before (p .0) (p .1) (g .1)
 
--- level 0: what ends at x or before stands below it, and widths are 1
+-- level 0: buckets that end at or before x are below it, since widths are 1
 module _ (k x : ℕ) where
   pub rising-passed : (a : ℕ) (before after : List Bucket) → Passed x before → Rising k a (before ++ after) → Under x before
   rising-passed a [] after p r = tt

@@ -1,4 +1,4 @@
--- Soundness of one level as facts, and that the tests of the model ask just these. Assumes nothing.
+-- Soundness of one level as facts, and that the tests of the model decide exactly these. Assumes nothing.
 use mathlib.Core.Bool.{Bool, true, _&&_}
 use mathlib.Core.Logic.{inl, inr, ⊎-elim}
 use mathlib.Core.Path.{_≡_, refl, ap, _∙_, subst}
@@ -25,7 +25,7 @@ pub record SoundBucket (k i count start : ℕ) (b : Bucket) : Type 0 where
   pub light : 1 < b .width → b .weight < 2 ^ suc i
   pub heavy : 2 ≤ count → 2 ^ i ≤ b .weight
 
--- each bucket starts where the last one ended, and the last ends at 2 ^ k
+-- each bucket starts where the one before ends, and the last ends at 2 ^ k
 abbrev pub Chained : ℕ → ℕ → ℕ → ℕ → List Bucket → Type 0
 Chained k i count start [] = start ≡ 2 ^ k
 Chained k i count start (b ∷ bs) = SoundBucket k i count start b × Chained k i count (b .offset + b .width) bs
@@ -34,7 +34,7 @@ abbrev pub SoundBuckets : ℕ → ℕ → ℕ → List Bucket → Type 0
 SoundBuckets k zero first bs = (first < 2 ^ k) × Rising k first bs
 SoundBuckets k (suc j) first bs = (1 ≤ length bs) × Chained k (suc j) (length bs) first bs
 
--- level i of a half of this total
+-- a sound level i, in a half of this total
 pub record SoundLevel (k n i total : ℕ) (l : Level) : Type 0 where
   pub few : length (l .buckets) ≤ n
   pub within : weightOf (l .buckets) ≤ total
@@ -134,7 +134,7 @@ pub slots-length : (ws : List ℕ) (j c : ℕ) → length (slots ws j c) ≡ c
 slots-length ws j zero = refl
 slots-length ws j (suc c) = ap suc (slots-length ws (j + 1) c)
 
--- sound words are those that have zeros in the unused places and stand for a sound level
+-- words are sound exactly if their unused slots are zero and they stand for a sound level
 pub words-tests : (s : Shape) (i total : ℕ) (ws : List ℕ)
     → Tests (soundLevel s i total ws) ((zeros (drop (slotStart (getD ws 0 0)) ws) ≡ true) × SoundLevel (s .k) (s .n) i total (decodeLevel ws))
 unfolding soundLevel decodeLevel

@@ -1,5 +1,5 @@
--- A level follows counts c and a total: its structure, and how far its sums are from c. One decilitre keeps this, and so does a
--- delivery of v. For every level, every c. Assumes nothing.
+-- What it means that a level follows counts c and a total: its structure, and how far its sums are from c. One decilitre keeps this, and so
+-- does a delivery of v. For every level and every c. Assumes nothing.
 use mathlib.Core.Path.{_≡_, refl, sym, ap, _∙_, subst, fun-ext}
 use mathlib.Core.List.{List, [], _∷_}
 use Prim.Native.Nat.{ℕ, zero, suc, _+_, _^_, _≤_, _<_}
@@ -48,7 +48,7 @@ module _ (k x : ℕ) (c : ℕ → ℕ) (first : ℕ) (bs : List Bucket) (kept : 
   grow-follows falls zero g = (put-rising x k first bs kept inside (g .0), λ t h. omega (arith, put-sum x t bs, g .1 t h))
   grow-follows falls (suc j) g = add-chain (suc j) k x c falls first bs kept inside g
 
--- the buckets that stay when the lowest is given up
+-- the buckets that stay when the lowest is evicted
 record Left (k i : ℕ) (c : ℕ → ℕ) (first : ℕ) (bs : List Bucket) : Type 0 where
   above : 0 < first
   inside : first < 2 ^ k
@@ -135,7 +135,7 @@ module _ (k n i : ℕ) (two : 2 ≤ n) where
       tracks-same (omega arith) (λ u. omega (arith, share-suc x v u))
       (unit-tracks (total + v) (more x v c) x (insert n i x v l) inside (insert-tracks total c x v l inside t))
 
--- an empty level follows the counts of nothing
+-- an empty level follows counts that are all 0
 whole-tracks : (k n i : ℕ) (bs : List Bucket) → length bs ≤ n → weightOf bs ≡ 0 → Follows k i (λ _. 0) 0 bs → Tracks k n i 0 (λ _. 0) (levelOf 0 bs)
 whole-tracks k n i bs few none g = record {
   falls = λ t u _. omega arith;

@@ -1,4 +1,4 @@
--- A book whose blocks are rewritten one after another, from grade 0 on: by this the loops over the grades go. Rests on lists in parts.
+-- A book whose blocks are rewritten one after another, from grade 0 on, as the loops over the grades do. Rests on lists in parts.
 use mathlib.Core.Path.{_≡_, sym, ap, _∙_}
 use mathlib.Core.List.{List, [], _∷_, _++_, append-assoc, append-nil}
 use Prim.Native.Nat.{ℕ, suc, _+_, _≤_, _<_}
@@ -13,7 +13,7 @@ use Rattle.model.specs.Block.{upFrom}
 use Rattle.model.specs.Words.{join, blockPart, withBlock}
 use Rattle.laws.specs.Parts.{length-join, upFrom-append, join-append}
 
--- the first c blocks are f's, the head and the other blocks as they were
+-- the words after the first c blocks were replaced by f's; the head and the other blocks stay
 unfoldable pub swept : Shape → (ℕ → List ℕ) → ℕ → List ℕ → List ℕ
 swept s f c ws = (take headLen ws ++ join (upFrom f 0 c)) ++ drop (blockStart s c) ws
 
@@ -55,12 +55,12 @@ module _ (s : Shape) (f : ℕ → List ℕ) (ws : List ℕ) (size : length ws �
     unfolding swept
     length-swept = rw length-append (simp length-drop (omega (arith, length-done, start-fits)))
 
-    -- block c is still as it was
+    -- block c has not changed yet
     pub swept-part : blockPart s c (swept s f c ws) ≡ blockPart s c ws
     unfolding swept
     swept-part = ap (take (blockWords s)) (drop-at done (drop (blockStart s c) ws) (blockStart s c) length-done)
 
-  -- and is rewritten next
+  -- block c is rewritten next
   pub swept-more : (c : ℕ) → c < s .g → withBlock s c (f c) (swept s f c ws) ≡ swept s f (suc c) ws
   unfolding swept
   swept-more c low =

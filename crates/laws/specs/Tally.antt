@@ -1,5 +1,5 @@
--- Counts of what lies at an offset or above it: `c t` is how much was delivered at t or above. What one delivery adds to them, and
--- the sums of a bucket list as such counts. Assumes nothing.
+-- Counts from an offset on: `c t` is how much was delivered at t or above. What one delivery adds to them, and the sums of a bucket list as
+-- such counts. Assumes nothing.
 use mathlib.Core.Bool.{Bool, true, false, cond}
 use mathlib.Core.Path.{_≡_, refl}
 use mathlib.Core.List.{List, [], _∷_}
@@ -13,7 +13,7 @@ use Rattle.model.specs.Sound.{weightOf}
 use Rattle.model.specs.Claim.{Each}
 use Rattle.laws.specs.Cases.{by-le}
 
--- of v at x, what lies at t or above: all or nothing
+-- how much of v at x lies at t or above: all or nothing
 abbrev pub share : ℕ → ℕ → ℕ → ℕ
 share x v t = cond (leb t x) v 0
 
@@ -52,7 +52,7 @@ pub sumFrom-falls : (bs : List Bucket) → Falling (λ t. sumFrom t bs)
 sumFrom-falls [] t u h = omega arith
 sumFrom-falls (b ∷ bs) t u h = more-falls (b .offset) (b .weight) (sumFrom-falls bs) t u h
 
--- every bucket stands at a or above
+-- every bucket starts at a or above
 abbrev pub AtLeast : ℕ → List Bucket → Type 0
 AtLeast a = Each (λ b. a ≤ b .offset)
 
@@ -64,7 +64,7 @@ pub sumFrom-all : (t : ℕ) (bs : List Bucket) → AtLeast t bs → sumFrom t bs
 sumFrom-all t [] h = refl
 sumFrom-all t (b ∷ bs) h = omega (arith, share-all (b .offset) (b .weight) t (h .0), sumFrom-all t bs (h .1))
 
--- buckets of weight p or more
+-- the sum of buckets that weigh p or more each
 pub heavy-sum : (p : ℕ) (bs : List Bucket) → Each (λ b. p ≤ b .weight) bs → length bs * p ≤ weightOf bs
 heavy-sum p [] h = omega arith
 heavy-sum p (b ∷ bs) h = omega (arith, heavy-sum p bs (h .1))

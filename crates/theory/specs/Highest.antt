@@ -97,7 +97,7 @@ module _ (k a : ℕ) where
   abbrev Same : List Bucket → List Bucket → Type 0
   Same bs cs = (t : ℕ) → a ≤ t → sumFrom t bs ≡ sumFrom t cs
 
-  -- the second cannot start above the first bucket of the first
+  -- neither can start above the first bucket of the other
   starts : (b : Bucket) (bs cs : List Bucket) → Rising k a (b ∷ bs) → Rising k (suc (b .offset)) cs → Same (b ∷ bs) cs → ⊥
   starts b bs cs r s same =
       head-shows b bs cs (r .0 .some) (rising-above k (suc (b .offset)) (suc (b .offset)) cs (le-refl _) s) (λ t h. same t (omega (arith, r .0 .low)))

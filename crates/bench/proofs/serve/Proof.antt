@@ -1,4 +1,4 @@
--- The lengths of the buffers stay, and what is lent and what waits within them.
+-- The lengths of the buffers stay, what is lent lies within its own, and nothing waits before a read.
 use mathlib.Core.Path.{_≡_}
 use Prim.Native.Nat.{_≤_}
 use lib.ListN.{length}
@@ -8,13 +8,13 @@ use Rattle.bench.proofs.serve.Tie as tie
 
 abbrev Inv-loop : tie.InvT-loop
 Inv-loop book₀ out₀ chunk₀ session₀ turns₀ book out chunk session turns =
-    (length book ≡ length book₀) × (length out ≡ length out₀) × (length chunk ≡ length chunk₀) × (session .lent ≤ length book) × (session .used ≤ length out) × (32 ≤ length out)
+    (length book ≡ length book₀) × (length out ≡ length out₀) × (length chunk ≡ length chunk₀) × (session .lent ≤ length book) × (session .used ≡ 0)
 
 abbrev μ-loop : tie.MeasureT-loop
 μ-loop book₀ out₀ chunk₀ session₀ turns₀ book out chunk session turns = turns
 
-start-requires : tie.Need-start-requires Inv-loop μ-loop
-start-requires c κs = search needs
+begin-requires : tie.Need-begin-requires Inv-loop μ-loop
+begin-requires c κs = search needs
 
 loop-holds : tie.Need-loop-holds Inv-loop μ-loop
 loop-holds c = search needs
@@ -34,6 +34,12 @@ slice-aggregate-feed c = search needs
 feed-requires : tie.Need-feed-requires Inv-loop μ-loop
 feed-requires c κs = search needs
 
+write-out-requires : tie.Need-write-out-requires Inv-loop μ-loop
+write-out-requires c κs = search needs
+
+written-out-requires : tie.Need-written-out-requires Inv-loop μ-loop
+written-out-requires c κs = search needs
+
 turns-after-requires : tie.Need-turns-after-requires Inv-loop μ-loop
 turns-after-requires c κs = search needs
 
@@ -46,8 +52,8 @@ loop-again c = search needs
 end-input-requires : tie.Need-end-input-requires Inv-loop μ-loop
 end-input-requires c κs = search needs
 
-write-out-requires : tie.Need-write-out-requires Inv-loop μ-loop
-write-out-requires c κs = search needs
+write-out-requires-2 : tie.Need-write-out-requires-2 Inv-loop μ-loop
+write-out-requires-2 c κs = search needs
 
 same-length : tie.Need-same-length Inv-loop μ-loop
 same-length c = search needs
@@ -67,18 +73,20 @@ serve-spec =
     (tie.spec
     Inv-loop
     μ-loop
-    start-requires
+    begin-requires
     loop-holds
     read-requires
     count-requires
     slice-reshare-prefix-feed
     slice-aggregate-feed
     feed-requires
+    write-out-requires
+    written-out-requires
     turns-after-requires
     loop-less
     loop-again
     end-input-requires
-    write-out-requires
+    write-out-requires-2
     same-length
     same-length-2
     same-length-3

@@ -1,0 +1,4 @@
+pub mod Lent
+pub mod LentLaws
+pub mod Said
+pub mod SaidLaws

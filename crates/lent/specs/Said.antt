@@ -1,0 +1,16 @@
+-- What the code's answer to a line prints, and what it leaves. Assumes nothing.
+use mathlib.Core.List.{List}
+use Prim.Native.Nat.{ℕ}
+use Rattle.model.specs.Reply.{replyOf}
+use Rattle.text.specs.Text.{textOf, unreadText}
+use Rattle.lent.specs.declared.Said.{Said}
+use Rattle.lent.specs.declared.Said.the-variants.{Answer, Unread}
+use Rattle.lent.specs.declared.Answered.{Answered}
+use Rattle.lent.specs.Lent.{After}
+
+unfoldable pub saidText : Said → List ℕ
+saidText (Answer a) = textOf (replyOf a)
+saidText Unread = unreadText
+
+abbrev pub afterOf : Answered → List ℕ → After
+afterOf r ws = record { words = ws; lent = r .lent; text = saidText (r .said) }

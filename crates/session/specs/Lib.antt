@@ -1,0 +1,5 @@
+pub mod Output
+pub mod Parsing
+pub mod Protocol
+pub mod Session
+pub mod SessionLaws

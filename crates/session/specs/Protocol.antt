@@ -1,0 +1,53 @@
+-- The whole input and the whole output of the bench program, as document 01's 'The bench program' has them. Assumes nothing.
+use mathlib.Core.Bool.{cond}
+use mathlib.Core.List.{List, [], _∷_, _++_}
+use Prim.Native.Nat.{ℕ}
+use lib.Dec.{eqb}
+use lib.ListN.{replicate}
+use Rattle.shape.specs.Limits.{Reply}
+use Rattle.model.specs.declared.Call.the-variants.{Make, Clock, Delivery, Query}
+use Rattle.grammar.specs.declared.Parsed.{Parsed}
+use Rattle.grammar.specs.declared.Parsed.the-variants.{Read, Unread}
+use Rattle.grammar.specs.Grammar.{grammar}
+use Rattle.lent.specs.Lent.{afterLine}
+
+abbrev pub newline : ℕ
+newline = 10
+
+abbrev pub bufferWords : ℕ
+bufferWords = 14836
+
+unfoldable pub zeroBuffer : List ℕ  -- the buffer at the start
+zeroBuffer = replicate bufferWords 0
+
+-- a byte in front of the first line; where there is none, it is a line of its own, which lacks its newline
+abbrev pub withByte : ℕ → List (List ℕ) → List (List ℕ)
+withByte byte [] = (byte ∷ []) ∷ []
+withByte byte (line ∷ lines) = (byte ∷ line) ∷ lines
+
+-- the lines of an input, without their newlines; an empty line counts, and so does a last one that has a byte and no newline
+abbrev pub linesOf : List ℕ → List (List ℕ)
+linesOf [] = []
+linesOf (byte ∷ bytes) = cond (eqb byte newline) ([] ∷ linesOf bytes) (withByte byte (linesOf bytes))
+
+-- the call of the values that the grammar gives a line, a letter and its numbers: how many numbers there are tells which, since no
+-- two letters take as many (`called`)
+abbrev pub parsedValues : List ℕ → Parsed
+parsedValues [] = Unread
+parsedValues (letter ∷ []) = Unread
+parsedValues (letter ∷ clock ∷ []) = Read (Clock clock)
+parsedValues (letter ∷ grade ∷ window ∷ []) = Read (Query grade window)
+parsedValues (letter ∷ grade ∷ stamp ∷ volume ∷ []) = Read (Delivery grade stamp volume)
+parsedValues (letter ∷ k ∷ n ∷ m ∷ g ∷ []) = Read (Make k n m g)
+parsedValues (letter ∷ a ∷ b ∷ c ∷ d ∷ e ∷ more) = Unread
+
+unfoldable pub parsedOf : Reply → Parsed  -- what a line asks for, from the grammar's answer
+parsedOf reply = parsedValues (reply .values)
+
+-- what is printed for lines, one after the other: each finds the buffer, and as much of it lent, as the one before has left
+abbrev pub printed : List ℕ → ℕ → List (List ℕ) → List ℕ
+printed words lent [] = []
+printed words lent (line ∷ lines) = let after = afterLine words lent (parsedOf (grammar line)) in after .text ++ printed (after .words) (after .lent) lines
+
+unfoldable pub output : List ℕ → List ℕ  -- the whole buffer is lent at the start
+output input = printed zeroBuffer bufferWords (linesOf input)

@@ -1,4 +1,4 @@
--- What the parts of the code give, put together. Assumes nothing.
+-- What the parts of the code give is what the definitions say. Assumes nothing.
 use mathlib.Core.Bool.{true, false}
 use mathlib.Core.List.{List, _++_, append-assoc}
 use mathlib.Core.Path.{_≡_, sym, ap, _∙_}
@@ -39,11 +39,11 @@ unfolding saidText
 said-short (said.Answer a) = text-short (replyOf a)
 said-short said.Unread = unread-short
 
--- the output behind the bytes that wait
+-- the output after the bytes that wait
 pub room-behind : (out : List ℕ) (used : ℕ) → used + 32 ≤ length out → 32 ≤ length (take (length out - used) (drop used out))
 room-behind out used h = rw (length-take-le (length out - used) (drop used out) (omega (arith, length-drop used out))) (omega arith)
 
--- a text put there
+-- writing a text there
 pub text-behind : (text out room last rest : List ℕ) (used added : ℕ) → used ≤ length out → 32 ≤ length room → added ≡ written text room
     → last ≡ put text room → take (used + added) (take used out ++ (last ++ rest)) ≡ take used out ++ text
 unfolding written put

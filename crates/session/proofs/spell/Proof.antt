@@ -1,4 +1,4 @@
--- The match tells what is said.
+-- The match says which answer it is.
 use mathlib.Core.Path.{sym, ap, _∙_}
 use Rattle.text.specs.Text.{written, put}
 use Rattle.lent.specs.declared.Said.{Said}

@@ -57,7 +57,7 @@ module _ (s : Shape) (parity : ℕ) (ws : List ℕ) (i : ℕ) where
     count : suc (s .last) - i ≡ suc (suc (s .last) - (i + 1))
     count = omega arith
 
-    pub levelsFrom-step : levelsFrom s parity ws i ≡ levelAt s parity ws i ∷ levelsFrom s parity ws (i + 1)
+    levelsFrom-step : levelsFrom s parity ws i ≡ levelAt s parity ws i ∷ levelsFrom s parity ws (i + 1)
     levelsFrom-step = ap (upFrom (levelAt s parity ws) i) count ∙ rw (← add-one i)
 
     pub soundFrom-step : soundFrom s parity ws i ≡ (soundAt s parity ws i && soundFrom s parity ws (i + 1))

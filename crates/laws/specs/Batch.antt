@@ -49,7 +49,7 @@ pub evict-lowest : (n i f : ℕ) (b : Bucket) (bs : List Bucket) → length bs �
 evict-lowest n i f b bs h = rw (eq-eqb (suc (length bs)) (n + 1) (omega arith))
 
 -- one bucket, whichever it is, makes a list one longer
-pub one-longer : (before : List Bucket) (b : Bucket) (after : List Bucket) → length (before ++ b ∷ after) ≡ suc (length (before ++ after))
+one-longer : (before : List Bucket) (b : Bucket) (after : List Bucket) → length (before ++ b ∷ after) ≡ suc (length (before ++ after))
 one-longer before b after = simp length-append (omega arith)
 
 module _ (n i f x : ℕ) (kept : f ≤ x) (before after : List Bucket) where

@@ -30,7 +30,7 @@ halfWords s = suc (s .last) * levelWords s
 
 module _ (s : Shape) where
   -- where a level starts, by halves
-  pub levelStart-half : (parity i : ℕ) → levelStart s parity i ≡ 2 + parity * halfWords s + i * levelWords s
+  levelStart-half : (parity i : ℕ) → levelStart s parity i ≡ 2 + parity * halfWords s + i * levelWords s
   unfolding levelStart halfWords
   levelStart-half parity i = rw (add-one, add-mul (parity * suc (s .last)) i (levelWords s), mul-assoc parity (suc (s .last)) (levelWords s)) (omega arith)
 
@@ -66,7 +66,7 @@ module _ (s : Shape) where
       ∙ ap (λ (a : ℕ). take (halfWords s) (drop a ws)) first
 
   -- words of a block's length are two totals and the parts of their levels
-  pub levels-joined : (ws : List ℕ) → length ws ≡ blockWords s
+  levels-joined : (ws : List ℕ) → length ws ≡ blockWords s
       → ws ≡ getD ws 0 0 ∷ getD ws 1 0
       ∷ (join (upFrom (λ i. levelPart s 0 i ws) 0 (suc (s .last))) ++ join (upFrom (λ i. levelPart s 1 i ws) 0 (suc (s .last))))
   levels-joined ws size =
@@ -88,7 +88,7 @@ pub record HalfSized (s : Shape) (h : Half) : Type 0 where
   pub few : (i : ℕ) → i ≤ s .last → length (levelAt i .buckets) ≤ s .n
 
 -- the words of the levels of a half
-abbrev pub levelsWords : Shape → Half → List ℕ
+abbrev levelsWords : Shape → Half → List ℕ
 levelsWords s h = join (map (encodeLevel (s .n)) (h .levels))
 
 -- words that have the half of this parity in its place
@@ -131,7 +131,7 @@ module _ (s : Shape) (h : Half) (z : HalfSized s h) where
     parts-joined = ap join (upFrom-cong _ _ 0 (suc (s .last)) (λ i low high. w .parts i (omega arith))) ∙ sym levelsWords-join
 
     -- decoding finds the half
-    pub decodeHalf-placed : decodeHalf s parity ws ≡ h
+    decodeHalf-placed : decodeHalf s parity ws ≡ h
     unfolding decodeHalf
     decodeHalf-placed =
         rw (w .total, upFrom-cong (λ i. decodeLevel (levelPart s parity i ws)) (z .levelAt) 0 (suc (s .last)) decode-parts, ← z .levels)
@@ -140,7 +140,7 @@ module _ (s : Shape) (h : Half) (z : HalfSized s h) where
     soundLevel-parts i low high = ap (soundLevel s i (h .total)) (w .parts i (omega arith)) ∙ soundLevel-encode s i (h .total) (z .levelAt i)
 
     -- soundness of the words is a fact of the half
-    pub soundHalf-placed : soundHalf s parity ws ≡ (leb (h .total) (2 ^ s .m) && allFrom (λ i. soundContent s i (h .total) (z .levelAt i)) 0 (suc (s .last)))
+    soundHalf-placed : soundHalf s parity ws ≡ (leb (h .total) (2 ^ s .m) && allFrom (λ i. soundContent s i (h .total) (z .levelAt i)) 0 (suc (s .last)))
     unfolding soundHalf
     soundHalf-placed =
         rw (
@@ -238,7 +238,7 @@ module _ (s : Shape) (ws : List ℕ) where
     soundHalf-level i low = allFrom-elim levelTest 0 (suc (s .last)) (tests .1) i (omega arith) (omega arith)
 
     -- sound words stand for a sound half
-    pub soundHalf-decode : HalfSound s (decodeHalf s parity ws)
+    soundHalf-decode : HalfSound s (decodeHalf s parity ws)
     unfolding decodeHalf
     soundHalf-decode =
         record {

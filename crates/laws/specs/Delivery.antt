@@ -20,14 +20,14 @@ use Rattle.laws.specs.BlockKept.{insertAll-upFrom}
 use Rattle.laws.specs.Halves.{Same, halfOf-decode, whole-half, whole-level, withLevels, length-written, levelPart-written-above, placed-written, same-written, encode-withHalf}
 
 module _ (s : Shape) (stamp v : ℕ) (ws : List ℕ) where
-  abbrev pub parity : ℕ
+  abbrev parity : ℕ
   parity = interval s stamp % 2
 
   -- level i of the stamp's half after the delivery
-  abbrev pub levelAfter : ℕ → Level
+  abbrev levelAfter : ℕ → Level
   levelAfter i = insert (s .n) i (offsetOf s stamp) v (decodeLevel (levelPart s parity i ws))
 
-  abbrev pub wordsAfter : ℕ → List ℕ
+  abbrev wordsAfter : ℕ → List ℕ
   wordsAfter i = encodeLevel (s .n) (levelAfter i)
 
   -- the words with the total raised and the levels below c inserted into
@@ -35,7 +35,7 @@ module _ (s : Shape) (stamp v : ℕ) (ws : List ℕ) where
   delivering c = withLevels s parity wordsAfter c (set ws parity (getD ws (totalStart parity) 0 + v))
 
   -- words that hold the delivery
-  pub record Delivered (new : List ℕ) : Type 0 where
+  record Delivered (new : List ℕ) : Type 0 where
     pub size : length new ≡ blockWords s
     pub total : getD new parity 0 ≡ getD ws (totalStart parity) 0 + v
     pub parts : (i : ℕ) → i ≤ s .last → levelPart s parity i new ≡ wordsAfter i
@@ -65,7 +65,7 @@ module _ (s : Shape) (stamp v : ℕ) (ws : List ℕ) where
     }
 
     -- they are the delivered block
-    pub delivered-block : (new : List ℕ) → Delivered new → new ≡ encodeBlock s (deliver s stamp v (decodeBlock s ws))
+    delivered-block : (new : List ℕ) → Delivered new → new ≡ encodeBlock s (deliver s stamp v (decodeBlock s ws))
     unfolding deliver deliverHalf decodeHalf after-sized
     delivered-block new d =
         let j = interval s stamp in

@@ -7,7 +7,7 @@ use Prim.Native.Nat.{ℕ, zero, suc, _+_, _-_, _*_, _≤_, _<_}
 use native.Mathlib.Nat.{zero-add, add-zero, suc-add, zero-mul, suc-mul, mul-le-mul-right}
 use native.Mathlib.Omega.{arith}
 use lib.Dec.{eqb}
-use lib.ListN.{length, getD, take, drop, replicate, length-append, length-drop, take-append-drop}
+use lib.ListN.{length, getD, take, drop, replicate, length-append, length-drop}
 use lib.Seq.{drop-cons, length-take-le, take-at, drop-at, take-add, take-take, take-append-le, drop-drop, getD-take, getD-drop}
 use borrow.Author.Tests.{eq-eqb, ne-eqb}
 use Rattle.shape.specs.LimitsLaws.{both}
@@ -54,11 +54,6 @@ module _ (p : ℕ → Bool) where
 -- ---- upFrom
 
 module _ {A : Type 0} (f : ℕ → A) where
-  -- as many values as asked for
-  pub length-upFrom : (i c : ℕ) → length (upFrom f i c) ≡ c
-  length-upFrom i zero = refl
-  length-upFrom i (suc c) = ap suc (length-upFrom (suc i) c)
-
   -- a function of each value
   pub map-upFrom : {B : Type 0} (g : A → B) (i c : ℕ) → map g (upFrom f i c) ≡ upFrom (λ j. g (f j)) i c
   map-upFrom g i zero = refl
@@ -99,7 +94,7 @@ join-append (x ∷ xs) ys = rw (join-append xs ys) (sym (append-assoc x (join xs
 
 module _ (i c d j : ℕ) (place : i + d ≡ j) (inside : d < c) where
   -- what stands before part j, the part, and what stands after
-  pub join-parted : (f : ℕ → List ℕ) (rest : List ℕ)
+  join-parted : (f : ℕ → List ℕ) (rest : List ℕ)
       → join (upFrom f i c) ++ rest ≡ join (upFrom f i d) ++ (f j ++ (join (upFrom f (suc j) (c - suc d)) ++ rest))
   join-parted f rest =
       let count : c ≡ d + suc (c - suc d) = omega arith in
@@ -164,10 +159,6 @@ take-upFrom ws i (suc c) h = rw (drop-cons ws i 0 (omega arith)) (ap (λ (z : Li
 
 -- ---- one part of any words replaced
 
--- a part put back where it stood
-pub withPart-same : (a n : ℕ) (ws : List ℕ) → withPart a n (take n (drop a ws)) ws ≡ ws
-withPart-same a n ws = rw (← drop-drop n a ws, take-append-drop n (drop a ws)) (take-append-drop a ws)
-
 -- the first word of the rest
 getD-first : (i : ℕ) (ws : List ℕ) (d : ℕ) → getD (drop i ws) 0 d ≡ getD ws i d
 getD-first i ws d = rw add-zero at (getD-drop i ws 0 d)
@@ -189,11 +180,11 @@ module _ (a n : ℕ) (x ws : List ℕ) (fits : a + n ≤ length ws) (size : leng
   take-drop-withPart = rw (drop-at (take a ws) (x ++ drop (a + n) ws) a length-low) (take-at x (drop (a + n) ws) n size)
 
   -- what stands below and above it
-  pub take-withPart : (b : ℕ) → b ≤ a → take b (withPart a n x ws) ≡ take b ws
+  take-withPart : (b : ℕ) → b ≤ a → take b (withPart a n x ws) ≡ take b ws
   take-withPart b low =
       take-append-le b (take a ws) (x ++ drop (a + n) ws) (omega (arith, length-low)) ∙ take-take b a ws low
 
-  pub drop-withPart : (b : ℕ) → a + n ≤ b → drop b (withPart a n x ws) ≡ drop b ws
+  drop-withPart : (b : ℕ) → a + n ≤ b → drop b (withPart a n x ws) ≡ drop b ws
   drop-withPart b high =
       let place : b ≡ a + n + (b - (a + n)) = omega arith in
       let p : List ℕ = take a ws ++ x in

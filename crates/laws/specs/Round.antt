@@ -41,7 +41,7 @@ getD-head n f [] = word-blank (slotLen * (n - 0)) 0
 getD-head n f (b ∷ bs) = refl
 
 -- F once bucket b is given up, by the word of the next one
-pub first-after : (i : ℕ) (b : Bucket) (bs : List Bucket) → (0 < i → 0 < length bs)
+first-after : (i : ℕ) (b : Bucket) (bs : List Bucket) → (0 < i → 0 < length bs)
     → cond (eqb i 0) (b .offset + 1) (headOffset bs) ≡ firstAfter i b bs
 first-after zero b bs some = refl
 first-after (suc i) b [] some = absurd (omega (arith, some (omega arith)))

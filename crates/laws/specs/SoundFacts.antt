@@ -3,7 +3,7 @@ use mathlib.Core.Bool.{Bool, true, _&&_}
 use mathlib.Core.Logic.{inl, inr, ⊎-elim}
 use mathlib.Core.Path.{_≡_, refl, ap, _∙_, subst}
 use mathlib.Core.List.{List, [], _∷_}
-use Prim.Native.Nat.{ℕ, zero, suc, _+_, _-_, _*_, _/_, _%_, _^_, _≤_, _<_}
+use Prim.Native.Nat.{ℕ, zero, suc, _+_, _-_, _/_, _%_, _^_, _≤_, _<_}
 use native.Mathlib.Nat.{div-add-mod', mul-mod-left}
 use native.Mathlib.Omega.{arith}
 use lib.Dec.{leb, ltb, eqb}
@@ -50,7 +50,7 @@ restTests k n i total count l =
     leb (weightOf bs) total && (implies (eqb first 0) (eqb (weightOf bs) total)
     && (implies (ltb 0 first) (eqb count n) && soundBuckets k i first bs))
 
-abbrev pub soundTests : ℕ → ℕ → ℕ → ℕ → Level → Bool
+abbrev soundTests : ℕ → ℕ → ℕ → ℕ → Level → Bool
 soundTests k n i total l = let count = length (l .buckets) in leb count n && restTests k n i total count l
 
 -- ---- a width is a power of 2, and its offset a multiple of it

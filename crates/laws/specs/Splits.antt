@@ -42,7 +42,7 @@ module _ (n i x : ℕ) where
   splits-past (c ∷ before) u rest = rw (u .0) (splits-past before (u .1) rest)
 
 -- the bucket that x falls into can be halved `size` times
-pub record Halvable (n i x f : ℕ) (before : List Bucket) (b : Bucket) (after : List Bucket) (size : ℕ) : Type 0 where
+record Halvable (n i x f : ℕ) (before : List Bucket) (b : Bucket) (after : List Bucket) (size : ℕ) : Type 0 where
   pub kept : f ≤ x
   pub passed : Passed x before
   pub low : b .offset ≤ x
@@ -126,7 +126,7 @@ module _ (n i x : ℕ) (from : 0 < i) where
           (λ (above : b .offset + half ≤ x). half-again v (b .offset + half) [] (b .offset + half) after above tt above (omega (arith, h .high, width-is)) (omega arith))
           (lt-or-ge x (b .offset + half)))
 
-  pub splits-most : (size v f : ℕ) (before : List Bucket) (b : Bucket) (after : List Bucket) → Halvable n i x f before b after size
+  splits-most : (size v f : ℕ) (before : List Bucket) (b : Bucket) (after : List Bucket) → Halvable n i x f before b after size
       → splitsAll n i x v (levelOf f (before ++ b ∷ after)) ≤ size
   unfolding level
   splits-most zero v f before b after h = omega (arith, none h v (λ long. absurd (omega (arith, h .power))))

@@ -102,7 +102,7 @@ module _ (k n i : ℕ) (two : 2 ≤ n) where
           })
           (λ room. rw e at (stays (omega arith)))
 
-  pub unit-tracks : (total : ℕ) (c : ℕ → ℕ) (x : ℕ) (l : Level) → x < 2 ^ k → Tracks k n i total c l → Tracks k n i (suc total) (more x 1 c) (unit n i x l)
+  unit-tracks : (total : ℕ) (c : ℕ → ℕ) (x : ℕ) (l : Level) → x < 2 ^ k → Tracks k n i total c l → Tracks k n i (suc total) (more x 1 c) (unit n i x l)
   unfolding unit
   unit-tracks total c x l inside t =
       let falls = more-falls x 1 (t .falls) in

@@ -41,16 +41,9 @@ halfFor s p es = halfFed s (volumeOf p es) (events s p es)
 
 -- two tests that agree on every entry
 module _ (s : Shape) (p q : Entry → Bool) where
-  pub events-cong : (es : List Entry) → Each (λ e. p e ≡ q e) es → events s p es ≡ events s q es
-  events-cong [] h = refl
-  events-cong (e ∷ es) h = rw (h .0, events-cong es (h .1))
-
   pub volumeOf-cong : (es : List Entry) → Each (λ e. p e ≡ q e) es → volumeOf p es ≡ volumeOf q es
   volumeOf-cong [] h = refl
   volumeOf-cong (e ∷ es) h = rw (h .0, volumeOf-cong es (h .1))
-
-  pub halfFor-cong : (es : List Entry) → Each (λ e. p e ≡ q e) es → halfFor s p es ≡ halfFor s q es
-  halfFor-cong es h = rw (events-cong es h, volumeOf-cong es h)
 
 -- no entry satisfies the test
 module _ (s : Shape) (p : Entry → Bool) where

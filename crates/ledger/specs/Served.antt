@@ -15,11 +15,11 @@ use Rattle.laws.specs.Cases.{lt-or-ge, eq-or-ne, by-eq}
 unfoldable pub served : ℕ → ℕ → ℕ
 served now parity = cond (eqb (now % 2) parity) now (cond (eqb now 0) 1 (now - 1))
 
-pub served-own : (now parity : ℕ) → now % 2 ≡ parity → served now parity ≡ now
+served-own : (now parity : ℕ) → now % 2 ≡ parity → served now parity ≡ now
 unfolding served
 served-own now parity h = rw (eq-eqb (now % 2) parity h)
 
-pub served-before : (now parity : ℕ) → (now % 2 ≡ parity → ⊥) → 0 < now → served now parity ≡ now - 1
+served-before : (now parity : ℕ) → (now % 2 ≡ parity → ⊥) → 0 < now → served now parity ≡ now - 1
 unfolding served
 served-before now parity h pos = rw (ne-eqb (now % 2) parity h, ne-eqb now 0 (λ e. omega arith))
 

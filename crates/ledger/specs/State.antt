@@ -49,7 +49,7 @@ module _ (l : Ledger) (good : Good l) where
   abbrev es : List Entry
   es = l .entries
 
-  pub half-sound : (grade parity : ℕ) → HalfSound s (halfAt s clock es (ofGrade grade) parity)
+  half-sound : (grade parity : ℕ) → HalfSound s (halfAt s clock es (ofGrade grade) parity)
   unfolding halfFed
   half-sound grade parity =
       let p = ofInterval s (ofGrade grade) (served (interval s clock) parity) in

@@ -30,20 +30,20 @@ leb-same x y u v f g =
 
 module _ (s : Shape) (start stamp : ℕ) where
   -- a stamp of the interval in which the window opens is covered by its offset
-  pub opens-within : interval s stamp ≡ interval s start → leb start stamp ≡ leb (offsetOf s start) (offsetOf s stamp)
+  opens-within : interval s stamp ≡ interval s start → leb start stamp ≡ leb (offsetOf s start) (offsetOf s stamp)
   opens-within e = leb-same start stamp (offsetOf s start) (offsetOf s stamp) (offset-le s start stamp (sym e)) (tick-le s start stamp (sym e))
 
   -- a stamp of a later interval is covered, one of an earlier interval is not
-  pub opens-before : interval s start < interval s stamp → leb start stamp ≡ true
+  opens-before : interval s start < interval s stamp → leb start stamp ≡ true
   opens-before h = le-leb start stamp (omega (arith, interval-lt s start stamp h))
 
-  pub opens-after : interval s stamp < interval s start → leb start stamp ≡ false
+  opens-after : interval s stamp < interval s start → leb start stamp ≡ false
   opens-after h = lt-leb start stamp (interval-lt s stamp start h)
 
 -- ---- the ledger's sum by interval and offset
 
 -- the entries that satisfy a test, of an interval from an offset on
-abbrev pub fromOffset : Shape → (Entry → Bool) → ℕ → ℕ → Entry → Bool
+abbrev fromOffset : Shape → (Entry → Bool) → ℕ → ℕ → Entry → Bool
 fromOffset s p j a e = ofInterval s p j e && leb a (offsetOf s (e .stamp))
 
 -- two lists of tests added up
@@ -84,7 +84,7 @@ module _ (s : Shape) (clock : ℕ) (p : Entry → Bool) (window : ℕ) where
         gone true t = refl
         gone false t = refl
 
-    pub window-own : (es : List Entry) → Each (λ e. e .stamp ≤ clock) es
+    window-own : (es : List Entry) → Each (λ e. e .stamp ≤ clock) es
         → volumeOf (ofWindow clock p window) es ≡ volumeOf (fromOffset s p current a) es
     window-own es past = volumeOf-cong s (ofWindow clock p window) (fromOffset s p current a) es (each es past)
       where
@@ -134,7 +134,7 @@ module _ (s : Shape) (clock : ℕ) (p : Entry → Bool) (window : ℕ) where
         outside true t = omega arith
         outside false t = omega arith
 
-    pub window-before : (es : List Entry) → Each (λ e. e .stamp ≤ clock) es
+    window-before : (es : List Entry) → Each (λ e. e .stamp ≤ clock) es
         → volumeOf (ofWindow clock p window) es ≡ volumeOf (fromOffset s p (interval s start) a) es + volumeOf (ofInterval s p current) es
     window-before es past =
         volumeOf-sum (ofWindow clock p window) (fromOffset s p (interval s start) a) (ofInterval s p current) es (each es past)
@@ -160,7 +160,7 @@ module _ (l : Ledger) (good : Good l) where
   HalfRelates R p j a = R (sumFrom a (serving a (halfFor s (ofInterval s p j) es .levels) .buckets)) (volumeOf (fromOffset s p j a) es)
 
   -- a relation that the same volume more on both sides keeps holds of a window's sum if it holds of the half in which the window opens
-  pub sum-relates : (R : ℕ → ℕ → Type 0) → ((x y more : ℕ) → R x y → R (x + more) (y + more)) → (p : Entry → Bool) (window : ℕ) → window ≤ 2 ^ s .k
+  sum-relates : (R : ℕ → ℕ → Type 0) → ((x y more : ℕ) → R x y → R (x + more) (y + more)) → (p : Entry → Bool) (window : ℕ) → window ≤ 2 ^ s .k
       → HalfRelates R p (interval s (opening clock window)) (offsetOf s (opening clock window))
       → R (answer s clock (opening clock window) (blockFor s clock es p)) (volumeOf (ofWindow clock p window) es)
   unfolding answer halfFed

@@ -179,7 +179,7 @@ module _ (k i : ℕ) (few : k ≤ 20) where
       sound-singles (seeSingle t b) bs (sound-single k i t b p (r .0)) (rw (next-single t b (r .0 .high)) (r .1))
 
 -- the ends stay below 2 ^ 32 as long as there is room for this many buckets
-pub end-next : (k i count start : ℕ) (b : Bucket) (n : ℕ) → k ≤ 20 → start + 1048576 * suc n < 2 ^ 32 → SoundBucket k i count start b
+end-next : (k i count start : ℕ) (b : Bucket) (n : ℕ) → k ≤ 20 → start + 1048576 * suc n < 2 ^ 32 → SoundBucket k i count start b
     → ((b .offset + b .width) % 2 ^ 32 ≡ b .offset + b .width) × (b .offset + b .width + 1048576 * n < 2 ^ 32)
 end-next k i count start b n few room s =
     let d = s .shape in

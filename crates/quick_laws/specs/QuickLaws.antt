@@ -244,7 +244,7 @@ module _ (k i count e : ℕ) (few : k ≤ 20) (low : i ≤ 24) (small : leastOf 
 -- ---- the level
 
 -- what the tests of a level ask
-abbrev pub Tested : ℕ → ℕ → Quick → Type 0
+abbrev Tested : ℕ → ℕ → Quick → Type 0
 Tested k first t = (first < 2 ^ k) × Enough k (t .extra) t × (t .end ≡ 2 ^ k) × (t .extra < 2097152)
 
 pub enough-tests : (k first : ℕ) (t : Quick) → Tests (enough k first t) (Tested k first t)

@@ -227,7 +227,7 @@ module _ (ws : List ℕ) (count k : ℕ) (few : k ≤ 20) where
       let n = length-slots ws 0 count in
       buckets-tests k (suc j) first bs .1 (rw n some, rw n (h .0))
 
-  pub rows-enough : (i : ℕ) (r : Quick) → i ≤ 24 → tried count i ≡ true → ByRows (leastOf count i) (mostOf count i) ws count r → enough k first r ≡ true
+  rows-enough : (i : ℕ) (r : Quick) → i ≤ 24 → tried count i ≡ true → ByRows (leastOf count i) (mostOf count i) ws count r → enough k first r ≡ true
       → (soundBuckets k i first bs ≡ true) × (weightOf bs ≤ (leastOf count i + r .extra) * count)
   rows-enough i r low t g seen =
       let p = tried-tests count i .0 t in
@@ -236,7 +236,7 @@ module _ (ws : List ℕ) (count k : ℕ) (few : k ≤ 20) where
       (held-sound i (r .extra) (p .0) (p .1) h, rw (length-slots ws 0 count) at (h .1))
 
   -- so that the sum of the weights is below 2 ^ 32
-  pub rows-weight : (i : ℕ) (r : Quick) → i ≤ 24 → count ≤ 1024 → tried count i ≡ true → ByRows (leastOf count i) (mostOf count i) ws count r
+  rows-weight : (i : ℕ) (r : Quick) → i ≤ 24 → count ≤ 1024 → tried count i ≡ true → ByRows (leastOf count i) (mostOf count i) ws count r
       → enough k first r ≡ true → weightOf bs % 2 ^ 32 ≡ weightOf bs
   rows-weight i r low few-buckets t g seen =
       let p = tried-tests count i .0 t in

@@ -39,7 +39,7 @@ module _ (ws : List ℕ) (call : Call) where
       sym (settle-refused (refusals (bookView ws) call) ws (accept ws call) (λ e. numberOf-pos r (sym h ∙ e))
       ∙ ap (λ (n : ℕ). outcomeOf (refused n) ws) h)
 
-  pub accepted-outcome : firstRefusal ws call ≡ 0 → perform ws call ≡ accept ws call
+  accepted-outcome : firstRefusal ws call ≡ 0 → perform ws call ≡ accept ws call
   unfolding perform
   accepted-outcome h = settle-accepted (refusals (bookView ws) call) ws (accept ws call) h
 
@@ -51,11 +51,11 @@ module _ (ws : List ℕ) (k n m g : ℕ) where
   make-outside h = rw h
 
   module _ (inside : within k n m g ≡ true) where
-    pub make-misfit : (length ws ≡ bookWords (shaped k n m g) → ⊥) → firstRefusal ws (Make k n m g) ≡ 2
+    make-misfit : (length ws ≡ bookWords (shaped k n m g) → ⊥) → firstRefusal ws (Make k n m g) ≡ 2
     unfolding refusals bookView
     make-misfit h = rw (inside, ne-eqb (length ws) (bookWords (shaped k n m g)) h)
 
-    pub make-fits : length ws ≡ bookWords (shaped k n m g) → firstRefusal ws (Make k n m g) ≡ 0
+    make-fits : length ws ≡ bookWords (shaped k n m g) → firstRefusal ws (Make k n m g) ≡ 0
     unfolding refusals bookView
     make-fits h = rw (inside, eq-eqb (length ws) (bookWords (shaped k n m g)) h)
 
@@ -63,14 +63,14 @@ module _ (ws : List ℕ) (k n m g : ℕ) where
 
 module _ (s : Shape) (clock : ℕ) (ws : List ℕ) where
   -- the words with another head
-  abbrev pub headed : List ℕ
+  abbrev headed : List ℕ
   headed = encodeHead s clock ++ drop headLen ws
 
-  pub length-headed : headLen ≤ length ws → length headed ≡ length ws
+  length-headed : headLen ≤ length ws → length headed ≡ length ws
   length-headed h = simp length-drop (omega arith)
 
   -- the blocks stay
-  pub blockPart-headed : (grade : ℕ) → blockPart s grade headed ≡ blockPart s grade ws
+  blockPart-headed : (grade : ℕ) → blockPart s grade headed ≡ blockPart s grade ws
   unfolding blockStart
   blockPart-headed grade =
       ap (take (blockWords s)) (drop-append-add (encodeHead s clock) (drop headLen ws) (grade * blockWords s) ∙ drop-drop (grade * blockWords s) headLen ws)
@@ -80,7 +80,7 @@ unfolding bookWords
 book-long s ws h = omega arith
 
 -- an accepted make's words
-pub made-swept : (s : Shape) (ws : List ℕ) → take headLen (headed s 0 ws) ++ join (upFrom (emptied s) 0 (s .g)) ≡ made s
+made-swept : (s : Shape) (ws : List ℕ) → take headLen (headed s 0 ws) ++ join (upFrom (emptied s) 0 (s .g)) ≡ made s
 unfolding made
 made-swept s ws = ap (λ (z : List (List ℕ)). encodeHead s 0 ++ join z) (sym (replicate-upFrom (emptied s 0) 0 (s .g)))
 
@@ -115,7 +115,7 @@ module _ (ws : List ℕ) (s : Shape) (clock to : ℕ) (o : Open ws s clock) (h :
       ∙ ap (λ (z : Shape). encodeBlock s (advance s (clockOf ws) to (decodeBlock z (blockPart z grade ws)))) (o .same))
 
   -- an accepted clock's words
-  pub clocked-swept : take headLen (headed s to ws) ++ join (upFrom (advanced s clock to (headed s to ws)) 0 (s .g)) ≡ clocked (shapeOf ws) to ws
+  clocked-swept : take headLen (headed s to ws) ++ join (upFrom (advanced s clock to (headed s to ws)) 0 (s .g)) ≡ clocked (shapeOf ws) to ws
   unfolding clocked
   clocked-swept =
       ap (λ (z : List (List ℕ)). encodeHead s to ++ join z)
@@ -144,7 +144,7 @@ module _ (ws : List ℕ) (s : Shape) (grade stamp volume : ℕ) (same : s ≡ sh
         room = rw (same, ← total-decode (shapeOf ws) (interval (shapeOf ws) stamp) (blockPart (shapeOf ws) grade ws)) (facts-d .room);
       }
 
-  pub delivered-words : withBlock s grade (encodeBlock s (deliver s stamp volume (decodeBlock s (blockPart s grade ws)))) ws ≡ delivered (shapeOf ws) grade stamp volume ws
+  delivered-words : withBlock s grade (encodeBlock s (deliver s stamp volume (decodeBlock s (blockPart s grade ws)))) ws ≡ delivered (shapeOf ws) grade stamp volume ws
   unfolding delivered
   delivered-words = rw same
 

@@ -20,7 +20,7 @@ use Rattle.grammar.specs.Grammar.{every, isDigit, valueFrom, valueOf, isDecimal
 use Rattle.text.specs.Text.{digitsOf, decimal, numbered, sumWord, refusedWord, acceptedText, textOf, unreadText, written, put}
 
 -- a text and another after it
-pub sets-append : (s t l : List ℕ) (i : ℕ) → sets l i (s ++ t) ≡ sets (sets l i s) (i + length s) t
+sets-append : (s t l : List ℕ) (i : ℕ) → sets l i (s ++ t) ≡ sets (sets l i s) (i + length s) t
 sets-append [] t l i = rw add-zero
 sets-append (a ∷ s) t l i =
     let e : suc i + length s ≡ i + suc (length s) = omega arith in
@@ -57,7 +57,7 @@ digits-step (suc most) x h = let d : suc most - 1 ≡ most = omega arith in rw d
 
 -- more digits than one: those before the last, and the last
 module _ (most x : ℕ) (room : 0 < most) (h : 10 ≤ x) where
-  pub digits-more : digitsOf most x ≡ digitsOf (most - 1) (x / 10) ++ (48 + x % 10) ∷ []
+  digits-more : digitsOf most x ≡ digitsOf (most - 1) (x / 10) ++ (48 + x % 10) ∷ []
   digits-more = digits-step most x room ∙ rw (le-ltb x 10 h)
 
   pub digits-length : length (digitsOf most x) ≡ length (digitsOf (most - 1) (x / 10)) + 1

@@ -18,7 +18,7 @@ use Rattle.laws.specs.Step.{Follows, Tracks, insert-tracks, grow-follows}
 use Rattle.theory.specs.Fed.{Event, fed, counted, Inside, fed-tracks}
 
 -- where buckets were given up, the offset just below `first` was delivered at
-abbrev pub Edge : (ℕ → ℕ) → Level → Type 0
+abbrev Edge : (ℕ → ℕ) → Level → Type 0
 Edge c l = (f : ℕ) → l .first ≡ suc f → c (suc f) < c f
 
 -- the n highest offsets that c counts at, each with its count; `first` is the next lower one + 1, or 0 where there is none
@@ -183,7 +183,7 @@ module _ {k n : ℕ} {c : ℕ → ℕ} where
           (λ (least : suc f ≤ m .first). least)
           (lt-or-ge (m .first) (suc f))
 
-  pub highest-one : (l m : Level) → Highest k n c l → Highest k n c m → l ≡ m
+  highest-one : (l m : Level) → Highest k n c l → Highest k n c m → l ≡ m
   highest-one l m p q =
       let f : l .first ≡ m .first = omega (arith, first-most l m p q, first-most m l q p) in
       let bs : l .buckets ≡ m .buckets =

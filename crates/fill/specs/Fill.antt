@@ -12,7 +12,7 @@ use Rattle.model.specs.Block.{interval, offsetOf}
 use Rattle.model.specs.Words.{levelPart, decodeLevel, encodeLevel}
 use Rattle.laws.specs.BlockWrites.{withLevel}
 use Rattle.laws.specs.Proper.{Open, Whole}
-use Rattle.laws.specs.Delivery.{delivering, length-delivering, levelPart-delivering, level-open}
+use Rattle.laws.specs.Deliver.{delivering, length-delivering, levelPart-delivering, level-open}
 use Rattle.block.specs.Steps.{LevelIn}
 
 -- a sound block whose half for the stamp has room for the volume

@@ -13,15 +13,15 @@ use Rattle.shape.specs.Layout.{slotStart}
 use Rattle.model.specs.Level.{Bucket, bucketOf, levelOf, insert}
 use Rattle.model.specs.Words.{slot, decodeLevel, encodeLevel}
 use Rattle.model.specs.Sound.{weightOf}
-use Rattle.laws.specs.Cases.{eq-or-ne}
-use Rattle.laws.specs.Batch.{Under, Over, insert-below, insert-put, insert-new}
+use Rattle.laws.specs.Cond.{eq-or-ne}
+use Rattle.laws.specs.Insert.{Under, Over, insert-below, insert-put, insert-new}
 use Rattle.laws.specs.LevelWords.{length-slots, encode-decode-sound}
 use Rattle.laws.specs.LevelWrites.{slot-encode, set-weight}
-use Rattle.laws.specs.Place.{place, EndsRise, sound-rises}
+use Rattle.laws.specs.SlotOf.{slotOf, EndsRise, sound-rises}
 use Rattle.laws.specs.Proper.{Open}
-use Rattle.laws.specs.Rise.{Rising}
-use Rattle.laws.specs.SoundFacts.{Chained, SoundBuckets, SoundLevel, words-tests}
-use Rattle.laws.specs.Round.{Ends, Placed, place-parts, count-parts, chained-covering, rising-passed, rising-at}
+use Rattle.laws.specs.Put.{Rising}
+use Rattle.laws.specs.SoundLevel.{Chained, SoundBuckets, SoundLevel, words-tests}
+use Rattle.laws.specs.Evict.{Ends, Placed, slotOf-parts, count-parts, chained-covering, rising-passed, rising-at}
 use Rattle.buckets.specs.Steps.{Takes, takes-at, Becomes}
 use Rattle.insert.specs.Ready.{Upper, Covers, Ready, ready}
 
@@ -62,8 +62,8 @@ pub record Found (s : Shape) (i x v : ℕ) (ws : List ℕ) (j : ℕ) : Type 0 wh
   pub kept : getD ws 1 0 ≤ x
   pub parts : Placed x (decodeLevel ws .buckets) j
 
-pub found : {s : Shape} {i x v : ℕ} {ws : List ℕ} {j : ℕ} → Open s i x v ws → getD ws 1 0 ≤ x → j ≡ place x (decodeLevel ws .buckets) → Found s i x v ws j
-found {x} {ws} o kept e = record { opened = o; kept = kept; parts = rw e (place-parts x (decodeLevel ws .buckets)) }
+pub found : {s : Shape} {i x v : ℕ} {ws : List ℕ} {j : ℕ} → Open s i x v ws → getD ws 1 0 ≤ x → j ≡ slotOf x (decodeLevel ws .buckets) → Found s i x v ws j
+found {x} {ws} o kept e = record { opened = o; kept = kept; parts = rw e (slotOf-parts x (decodeLevel ws .buckets)) }
 
 module _ {s : Shape} {i x v : ℕ} {ws : List ℕ} {j : ℕ} (e : Found s i x v ws j) where
   abbrev bs : List Bucket

@@ -12,11 +12,11 @@ use lib.Pow.{pow-pos}
 use Rattle.shape.specs.Layout.{slotStart}
 use Rattle.model.specs.Level.{Bucket, Level, bucketOf, levelOf, evict, insert}
 use Rattle.model.specs.Words.{slot, decodeLevel, encodeLevel}
-use Rattle.laws.specs.Buckets.{halves}
-use Rattle.laws.specs.Batch.{insert-below}
+use Rattle.laws.specs.Bucket.{halves}
+use Rattle.laws.specs.Insert.{insert-below}
 use Rattle.laws.specs.LevelWords.{decode-encode}
 use Rattle.laws.specs.LevelWrites.{slot-encode, set-weight}
-use Rattle.laws.specs.Round.{count-parts, Passed, passed-snoc, Round, both, upper, upper-held, upper-split, one-round}
+use Rattle.laws.specs.Evict.{count-parts, Passed, passed-snoc, Round, both, upper, upper-held, upper-split, one-round}
 use Rattle.buckets.specs.Steps.{Takes, takes-at, Becomes}
 
 -- the limits of a level from 1

@@ -18,7 +18,7 @@ use Rattle.model.specs.Level.{Level}
 use Rattle.model.specs.Block.{Half, Block, upFrom}
 use Rattle.model.specs.Words.{decodeLevel, levelPart, decodeHalf, decodeBlock, join, encodeLevel, encodeBlock}
 use Rattle.model.specs.Sound.{allFrom, soundLevel, soundHalf, soundBlock}
-use Rattle.laws.specs.Cases.{and-true}
+use Rattle.laws.specs.Cond.{and-true}
 use Rattle.laws.specs.LevelWords.{first-two, decode-encode, length-encode, soundContent, soundLevel-encode, soundLevel-decode, encode-decode-sound}
 use Rattle.laws.specs.Parts.{append-cong, Each, allFrom-intro, allFrom-elim, allFrom-cong, map-upFrom, upFrom-cong, length-join, take-drop-join, join-consecutive, place-next}
 

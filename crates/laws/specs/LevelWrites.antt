@@ -11,7 +11,7 @@ use Rattle.shape.specs.Layout.{levelHeadLen, slotLen, slotStart}
 use Rattle.model.specs.Level.{Bucket, Level, bucketOf, levelOf}
 use Rattle.model.specs.Words.{slot, encodeLevel, slotWords}
 use Rattle.laws.specs.LevelWords.{flat, blank, length-flat, flat-append, slot-at}
-use Rattle.laws.specs.Moves.{raise, lower, putSlot, putSlot-raise, putSlot-lower}
+use Rattle.laws.specs.SlotWrites.{raise, lower, putSlot, putSlot-raise, putSlot-lower}
 
 -- a store after the first list of two
 set-append-add : (u ws : List ℕ) (i v : ℕ) → set (u ++ ws) (length u + i) v ≡ u ++ set ws i v

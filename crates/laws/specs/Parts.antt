@@ -14,7 +14,7 @@ use Rattle.shape.specs.LimitsLaws.{both}
 use Rattle.model.specs.Block.{upFrom}
 use Rattle.model.specs.Words.{join}
 use Rattle.model.specs.Sound.{allFrom}
-use Rattle.laws.specs.Cases.{lt-or-ge, and-true}
+use Rattle.laws.specs.Cond.{lt-or-ge, and-true}
 
 -- P holds of i, i + 1 and so on, c numbers
 abbrev pub Each : ℕ → ℕ → (ℕ → Type 0) → Type 0

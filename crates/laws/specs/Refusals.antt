@@ -20,7 +20,7 @@ use Rattle.model.specs.Words.{blockPart, decodeBlock}
 use Rattle.model.specs.Sound.{allFrom, maxClock, soundHead, soundBlock}
 use Rattle.model.specs.Calls.{View, firstOf, opened, refusals, Outcome, outcomeOf, settle, bookView, accept, perform}
 use Rattle.model.specs.Ledger.{Ledger, ledgerView, note, enter}
-use Rattle.laws.specs.Cases.{by-eq}
+use Rattle.laws.specs.Cond.{by-eq}
 
 -- no refusal has the number 0
 pub numberOf-pos : (r : Refusal) → numberOf r ≡ 0 → ⊥

@@ -12,11 +12,11 @@ use lib.Dec.{ltb, eqb, eqb→eq, ltb→lt}
 use lib.ListN.{length, length-append}
 use lib.Pow.{pow-pos}
 use Rattle.model.specs.Level.{Bucket, Level, bucketOf, levelOf, holds, evict, insert}
-use Rattle.laws.specs.Cases.{by-both, lt-or-ge}
-use Rattle.laws.specs.Buckets.{raised, halves, holds-inside}
-use Rattle.laws.specs.Batch.{Uncovered, insert-add, insert-below}
-use Rattle.laws.specs.SoundFacts.{Chained, SoundLevel}
-use Rattle.laws.specs.Round.{Passed, passed-uncovered, passed-snoc, Round, both, upper, upper-held, upper-split, one-round, place-parts, chained-covering}
+use Rattle.laws.specs.Cond.{by-both, lt-or-ge}
+use Rattle.laws.specs.Bucket.{raised, halves, holds-inside}
+use Rattle.laws.specs.Insert.{Uncovered, insert-add, insert-below}
+use Rattle.laws.specs.SoundLevel.{Chained, SoundLevel}
+use Rattle.laws.specs.Evict.{Passed, passed-uncovered, passed-snoc, Round, both, upper, upper-held, upper-split, one-round, slotOf-parts, chained-covering}
 
 -- 1 where a decilitre at offset x splits a bucket of level i
 abbrev pub splitsOne : ℕ → ℕ → List Bucket → ℕ
@@ -151,7 +151,7 @@ level-splits k n j total x v l inside s =
     ⊎-elim
     (λ (below : x < l .first). omega (arith, splits-below n (suc j) x v l below))
     (λ (kept : l .first ≤ x).
-    let p = place-parts x (l .buckets) in
+    let p = slotOf-parts x (l .buckets) in
     let chained = subst (Chained k (suc j) (length (l .buckets)) (l .first)) (p .same) (s .parts .1) in
     let c = chained-covering k (suc j) (length (l .buckets)) x inside (p .after) (p .ends) (l .first) (p .before) kept (p .passed) chained in
     let shape = c .sound .shape in

@@ -12,7 +12,7 @@ use Rattle.shape.specs.declared.Shape.{Shape}
 use Rattle.model.specs.Block.{Half, Block, interval, offsetOf, halfOf, emptyHalf, empties, advance, deliver, deliverHalf}
 use Rattle.model.specs.Ledger.{Entry, ofInterval}
 use Rattle.model.specs.Claim.{Each}
-use Rattle.laws.specs.Cases.{and-false}
+use Rattle.laws.specs.Cond.{and-false}
 use Rattle.ledger.specs.Time.{interval-mono}
 use Rattle.ledger.specs.Grown.{halfFor, halfFor-none, halfFor-more, halfFor-other}
 use Rattle.ledger.specs.Served.{served, served-near, served-parity, served-clock}

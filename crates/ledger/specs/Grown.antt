@@ -13,7 +13,7 @@ use Rattle.model.specs.Block.{Half, upFrom, offsetOf, emptyHalf, deliverHalf}
 use Rattle.model.specs.Ledger.{Entry, volumeOf}
 use Rattle.model.specs.Claim.{Each}
 use Rattle.ledger.specs.Time.{offset-lt}
-use Rattle.laws.specs.BlockKept.{insertAll-upFrom}
+use Rattle.laws.specs.BlockSound.{insertAll-upFrom}
 use Rattle.theory.specs.Fed.{Event, fed, counted, Inside}
 
 -- the entries that satisfy a test, as events of an interval

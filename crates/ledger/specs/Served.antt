@@ -8,7 +8,7 @@ use lib.Dec.{eqb}
 use borrow.Author.Tests.{eq-eqb, ne-eqb}
 use Rattle.model.specs.Block.{empties}
 use Rattle.model.specs.BlockLaws.{empties-same, empties-next, empties-other, empties-skipped}
-use Rattle.laws.specs.Cases.{lt-or-ge, eq-or-ne, by-eq}
+use Rattle.laws.specs.Cond.{lt-or-ge, eq-or-ne, by-eq}
 
 -- the interval that a half serves while the clock is in interval `now`: that one, or the one before it. In interval 0 the odd half
 -- has not served any; interval 1, which has no entry yet, stands for it

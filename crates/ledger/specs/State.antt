@@ -15,7 +15,7 @@ use Rattle.model.specs.Words.{shapeOf, clockOf, encodeBlock, decodeBlock, block
 use Rattle.model.specs.Sound.{allFrom, soundBlock, soundHead, maxClock}
 use Rattle.model.specs.Ledger.{Entry, Ledger, volumeOf, ofGrade, ofInterval}
 use Rattle.model.specs.Claim.{Each}
-use Rattle.laws.specs.SoundFacts.{sound-tests}
+use Rattle.laws.specs.SoundLevel.{sound-tests}
 use Rattle.laws.specs.Parts.{allFrom-intro}
 use Rattle.laws.specs.BlockWords.{HalfSound, sound-sized, length-encodeBlock, decode-encodeBlock, soundBlock-encode}
 use Rattle.laws.specs.BookWords.{bookOf, length-bookOf, blockPart-bookOf, soundHead-encode}

@@ -12,7 +12,7 @@ use Rattle.shape.specs.declared.Shape.{Shape}
 use Rattle.model.specs.Block.{interval, offsetOf, opening, answer, sumFrom, serving}
 use Rattle.model.specs.Ledger.{Entry, Ledger, volumeOf, ofInterval, ofWindow}
 use Rattle.model.specs.Claim.{Each, Admits}
-use Rattle.laws.specs.Cases.{lt-or-ge, eq-or-ne}
+use Rattle.laws.specs.Cond.{lt-or-ge, eq-or-ne}
 use Rattle.theory.specs.Fed.{counted}
 use Rattle.theory.specs.Relative.{relative, admits-more}
 use Rattle.ledger.specs.Time.{offset-lt, interval-mono, interval-lt, interval-near, offset-le, tick-le}

@@ -11,11 +11,11 @@ use lib.Pow.{pow-pos, pow-mono, pow-lt}
 use borrow.Author.Tests.{le-ltb, le-leb, ne-eqb}
 use Rattle.model.specs.Level.{Bucket}
 use Rattle.model.specs.Sound.{weightOf, soundBuckets}
-use Rattle.laws.specs.Cases.{lt-or-ge, by-lt, by-le, by-eq}
-use Rattle.laws.specs.Chain.{Dyadic, width-pos}
-use Rattle.laws.specs.Reflect.{Tests, tests-same, tests-equal, ltb-tests, eqb-tests, and-tests, implies-tests}
-use Rattle.laws.specs.Rise.{Single, Rising}
-use Rattle.laws.specs.SoundFacts.{SoundBucket, Chained, SoundBuckets, buckets-tests}
+use Rattle.laws.specs.Cond.{lt-or-ge, by-lt, by-le, by-eq}
+use Rattle.laws.specs.Add.{Dyadic, width-pos}
+use Rattle.laws.specs.Tests.{Tests, tests-same, tests-equal, ltb-tests, eqb-tests, and-tests, implies-tests}
+use Rattle.laws.specs.Put.{Single, Rising}
+use Rattle.laws.specs.SoundLevel.{SoundBucket, Chained, SoundBuckets, buckets-tests}
 use Rattle.words.specs.Bits.{or-none, none-or, or-least, xor-none, none-xor, lone-bit}
 use Rattle.pass_laws.specs.Pass.{unseen, below, less, spread, seeSingle, seeBucket, seeOne, seeAll, leastOf, seenLevel, weightSeen, soundSeen}
 use Rattle.pass_laws.specs.declared.Seen.{Seen}

@@ -11,9 +11,9 @@ use lib.Pow.{pow-pos, pow-mono}
 use borrow.Author.Tests.{le-leb, lt-leb}
 use Rattle.model.specs.Level.{Bucket}
 use Rattle.model.specs.Sound.{weightOf}
-use Rattle.laws.specs.Cases.{lt-or-ge, by-lt, by-le}
-use Rattle.laws.specs.Reflect.{Tests, tests-same, leb-tests, ltb-tests, eqb-tests, and-tests}
-use Rattle.laws.specs.SoundFacts.{SoundBucket, Chained}
+use Rattle.laws.specs.Cond.{lt-or-ge, by-lt, by-le}
+use Rattle.laws.specs.Tests.{Tests, tests-same, leb-tests, ltb-tests, eqb-tests, and-tests}
+use Rattle.laws.specs.SoundLevel.{SoundBucket, Chained}
 use Rattle.words.specs.Bits.{or-none, or-least, xor-none, lone-bit}
 use Rattle.pass_laws.specs.Pass.{less, leastOf}
 use Rattle.pass_laws.specs.PassLaws.{before-is, aligned, chained-start}

@@ -15,7 +15,7 @@ use Rattle.shape.specs.LimitsLaws.{both}
 use Rattle.model.specs.Level.{Bucket}
 use Rattle.model.specs.Words.{slots}
 use Rattle.model.specs.Sound.{weightOf, soundBuckets}
-use Rattle.laws.specs.SoundFacts.{buckets-tests}
+use Rattle.laws.specs.SoundLevel.{buckets-tests}
 use Rattle.laws.specs.LevelWords.{slots-all, length-slots}
 use Rattle.words.specs.Slot.{front, front-at, cons-same, part-all, moved}
 use Rattle.words.specs.Bits.{or-none, or-least, xor-none}

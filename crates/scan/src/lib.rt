@@ -11,7 +11,7 @@ ghost use lib.ListN.{length, getD};
 ghost use Rattle.shape.specs.Layout.{slotStart};
 ghost use Rattle.model.specs.Words.{decodeLevel};
 ghost use Rattle.model.specs.Block.{sumFrom};
-ghost use Rattle.laws.specs.Place.{place, EndsRise};
+ghost use Rattle.laws.specs.SlotOf.{slotOf, EndsRise};
 ghost use Rattle.scan.specs.Search.{isPast, Spans};
 
 // Where a bucket ends.
@@ -62,7 +62,7 @@ fn gallop(level: &[u32], x: u32) -> Span
 // one place is left.
 pub fn find(level: &[u32], x: u32) -> usize
     requires { ⌜ (slotStart (getD (now level) 0 0) ≤ length (now level)) × EndsRise 0 (decodeLevel (now level) .buckets) ⌝ }
-    ensures { λ r. ⌜ r ≡ place x (decodeLevel (now (level .entry)) .buckets) ⌝ }
+    ensures { λ r. ⌜ r ≡ slotOf x (decodeLevel (now (level .entry)) .buckets) ⌝ }
 {
     let span = gallop(level, x);
     let mut low = span.low;

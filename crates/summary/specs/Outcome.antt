@@ -22,7 +22,7 @@ use Rattle.model.specs.Sound.{soundBlock}
 use Rattle.model.specs.Calls.{blockAt, refusals, bookView, outcomeOf, accept, perform, made, clocked, delivered}
 use Rattle.model.specs.Reply.{numberOf, replyOf}
 use Rattle.laws.specs.Proper.{Proper}
-use Rattle.laws.specs.Halves.{total-decode}
+use Rattle.laws.specs.HalfWrites.{total-decode}
 use Rattle.laws.specs.BookWords.{limits-within, soundHead-limits, length-blockPart}
 use Rattle.laws.specs.Parts.{allFrom-elim, upFrom-cong, replicate-upFrom}
 use Rattle.laws.specs.Refusals.{numberOf-pos, settle-accepted, settle-refused, AcceptedClock, accepted-clock, AcceptedDelivery, accepted-delivery, AcceptedQuery, accepted-query}

@@ -11,7 +11,7 @@ use Rattle.model.specs.Words.{blockPart, decodeBlock, encodeBlock}
 use Rattle.model.specs.Sound.{soundBlock}
 use Rattle.laws.specs.Proper.{Proper}
 use Rattle.laws.specs.BlockWords.{soundBlock-decode}
-use Rattle.laws.specs.BlockKept.{empty-half, advance-both, both-size}
+use Rattle.laws.specs.BlockSound.{empty-half, advance-both, both-size}
 
 -- a book whose blocks are sound
 pub record AllSound (s : Shape) (ws : List ℕ) : Type 0 where

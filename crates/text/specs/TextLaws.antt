@@ -15,7 +15,7 @@ use Rattle.model.specs.Reply.{numberOf, replyOf}
 use Rattle.model.specs.declared.Answer.the-variants.{Refused}
 use Rattle.model.specs.declared.Refusal.{Refusal}
 use Rattle.model.specs.declared.Refusal.the-variants.{Shape, Length, Grade, Volume, Window, Limit, Head, Ahead, Late, Back, Block, Full}
-use Rattle.laws.specs.Cases.{by-lt, and-true}
+use Rattle.laws.specs.Cond.{by-lt, and-true}
 use Rattle.grammar.specs.Grammar.{every, isDigit, valueFrom, valueOf, isDecimal}
 use Rattle.text.specs.Text.{digitsOf, decimal, numbered, sumWord, refusedWord, acceptedText, textOf, unreadText, written, put}
 

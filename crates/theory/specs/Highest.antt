@@ -11,10 +11,10 @@ use lib.Dec.{leb, eqb}
 use lib.ListN.{length}
 use Rattle.model.specs.Level.{Bucket, Level, bucketOf, levelOf, put, evict, unit, insert}
 use Rattle.model.specs.Block.{sumFrom}
-use Rattle.laws.specs.Cases.{by-lt, by-le, by-eq, lt-or-ge}
-use Rattle.laws.specs.Tally.{share, more, AtLeast, at-least-less, share-all, share-none, share-suc, share-falls, sumFrom-all, sumFrom-falls}
-use Rattle.laws.specs.Rise.{Rising, rising-above, sumFrom-past}
-use Rattle.laws.specs.Step.{Follows, Tracks, insert-tracks, grow-follows}
+use Rattle.laws.specs.Cond.{by-lt, by-le, by-eq, lt-or-ge}
+use Rattle.laws.specs.SumFrom.{share, more, AtLeast, at-least-less, share-all, share-none, share-suc, share-falls, sumFrom-all, sumFrom-falls}
+use Rattle.laws.specs.Put.{Rising, rising-above, sumFrom-past}
+use Rattle.laws.specs.Unit.{Follows, Tracks, insert-tracks, grow-follows}
 use Rattle.theory.specs.Fed.{Event, fed, counted, Inside, fed-tracks}
 
 -- where buckets were given up, the offset just below `first` was delivered at

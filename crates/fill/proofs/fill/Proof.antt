@@ -7,7 +7,7 @@ use native.Mathlib.Numerals.{add-one}
 use lib.ListN.{length, getD, set, length-set}
 use Rattle.shape.specs.Layout.{totalStart}
 use Rattle.laws.specs.BlockWords.{blockWords-halves}
-use Rattle.laws.specs.Delivery.{delivering, delivering-all}
+use Rattle.laws.specs.Deliver.{delivering, delivering-all}
 use Rattle.fill.specs.Fill.{Fills, total-fits, level-in, level-takes, level-filled}
 use native.Mathlib.Omega.{arith}
 use Rattle.fill.proofs.fill.Statement.{statement}

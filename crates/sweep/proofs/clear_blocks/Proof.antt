@@ -5,7 +5,7 @@ use Prim.Native.Nat.{_-_, _≤_}
 use native.Mathlib.Numerals.{add-one}
 use lib.ListN.{length}
 use Rattle.model.specs.Words.{withBlock}
-use Rattle.laws.specs.Sweep.{swept, swept-none, swept-more, swept-all}
+use Rattle.laws.specs.BookWrites.{swept, swept-none, swept-more, swept-all}
 use Rattle.sweep.specs.Sweeps.{emptied, emptied-size}
 use native.Mathlib.Omega.{arith}
 use Rattle.sweep.proofs.clear_blocks.Statement.{statement}

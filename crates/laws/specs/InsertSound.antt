@@ -11,11 +11,11 @@ use Rattle.model.specs.Level.{Bucket, Level, insert, emptyLevel}
 use Rattle.model.specs.Block.{sumFrom}
 use Rattle.model.specs.Sound.{weightOf}
 use Rattle.model.specs.Claim.{Each}
-use Rattle.laws.specs.Tally.{AtLeast, sumFrom-all, sumFrom-falls, heavy-sum}
-use Rattle.laws.specs.Chain.{Dyadic, Chain, chain-end, width-pos}
-use Rattle.laws.specs.Rise.{Rising, sumFrom-past}
-use Rattle.laws.specs.Step.{Follows, Tracks, insert-tracks, empty-tracks}
-use Rattle.laws.specs.SoundFacts.{Chained, SoundBuckets, SoundLevel}
+use Rattle.laws.specs.SumFrom.{AtLeast, sumFrom-all, sumFrom-falls, heavy-sum}
+use Rattle.laws.specs.Add.{Dyadic, Chain, chain-end, width-pos}
+use Rattle.laws.specs.Put.{Rising, sumFrom-past}
+use Rattle.laws.specs.Unit.{Follows, Tracks, insert-tracks, empty-tracks}
+use Rattle.laws.specs.SoundLevel.{Chained, SoundBuckets, SoundLevel}
 
 -- ---- from soundness to counts
 

@@ -12,8 +12,8 @@ use lib.ListN.{length, length-append}
 use Rattle.model.specs.Level.{Bucket, Level, bucketOf, levelOf, gained, put, holds, split, add, grow, firstAfter, evict, unit, insert}
 use Rattle.model.specs.LevelLaws.{unit-below}
 use Rattle.model.specs.Claim.{Each}
-use Rattle.laws.specs.Cases.{lt-or-ge}
-use Rattle.laws.specs.Buckets.{raised, halves, by-split}
+use Rattle.laws.specs.Cond.{lt-or-ge}
+use Rattle.laws.specs.Bucket.{raised, halves, by-split}
 
 -- no bucket of the list covers x
 abbrev pub Uncovered : ℕ → List Bucket → Type 0

@@ -13,11 +13,11 @@ use Rattle.model.specs.Level.{Level, insert}
 use Rattle.model.specs.Block.{Half, interval, offsetOf, withHalf, deliverHalf, deliver}
 use Rattle.model.specs.Words.{levelPart, decodeLevel, decodeHalf, decodeBlock, encodeLevel, encodeBlock}
 use Rattle.laws.specs.LevelWords.{length-encode}
-use Rattle.laws.specs.Kept.{insert-sound}
+use Rattle.laws.specs.InsertSound.{insert-sound}
 use Rattle.laws.specs.BlockWords.{HalfSized, soundHalf-level, length-levelPart}
 use Rattle.laws.specs.Proper.{Open, Whole}
-use Rattle.laws.specs.BlockKept.{insertAll-upFrom}
-use Rattle.laws.specs.Halves.{Same, halfOf-decode, whole-half, whole-level, withLevels, length-written, levelPart-written-above, placed-written, same-written, encode-withHalf}
+use Rattle.laws.specs.BlockSound.{insertAll-upFrom}
+use Rattle.laws.specs.HalfWrites.{Same, halfOf-decode, whole-half, whole-level, withLevels, length-written, levelPart-written-above, placed-written, same-written, encode-withHalf}
 
 module _ (s : Shape) (stamp v : ℕ) (ws : List ℕ) where
   abbrev parity : ℕ

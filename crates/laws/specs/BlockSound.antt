@@ -17,9 +17,9 @@ use Rattle.model.specs.Level.{Level, insert, emptyLevel}
 use Rattle.model.specs.Block.{Half, Block, upFrom, emptyHalf, insertAll, deliverHalf, deliver, halfOf, interval, offsetOf, advance, empties, serving, servingIndex}
 use Rattle.model.specs.Words.{encodeBlock}
 use Rattle.model.specs.Sound.{soundBlock}
-use Rattle.laws.specs.Cases.{by-test, by-le, lt-or-ge}
-use Rattle.laws.specs.SoundFacts.{SoundLevel, sound-tests}
-use Rattle.laws.specs.Kept.{empty-sound, insert-sound, sound-serves}
+use Rattle.laws.specs.Cond.{by-test, by-le, lt-or-ge}
+use Rattle.laws.specs.SoundLevel.{SoundLevel, sound-tests}
+use Rattle.laws.specs.InsertSound.{empty-sound, insert-sound, sound-serves}
 use Rattle.laws.specs.BlockWords.{HalfSound, sound-sized, length-encodeBlock, soundBlock-encode}
 use Rattle.laws.specs.Proper.{Proper}
 

@@ -15,11 +15,11 @@ use Rattle.model.specs.Block.{Half, Block, interval, halfOf, withHalf, emptyHal
 use Rattle.model.specs.BlockLaws.{empties-same, empties-next, empties-other}
 use Rattle.model.specs.Words.{levelPart, decodeLevel, decodeHalf, decodeBlock, encodeLevel, encodeBlock}
 use Rattle.model.specs.Sound.{soundHalf}
-use Rattle.laws.specs.Cases.{lt-or-ge}
-use Rattle.laws.specs.SoundFacts.{SoundLevel, words-tests}
+use Rattle.laws.specs.Cond.{lt-or-ge}
+use Rattle.laws.specs.SoundLevel.{SoundLevel, words-tests}
 use Rattle.laws.specs.LevelWords.{length-encode}
 use Rattle.laws.specs.Parts.{place-next}
-use Rattle.laws.specs.Kept.{empty-sound}
+use Rattle.laws.specs.InsertSound.{empty-sound}
 use Rattle.laws.specs.BlockWords.{HalfSized, Placed, sound-sized, blockWords-halves, soundHalf-total, soundHalf-level, soundBlock-halves, soundBlock-decode, encode-decodeBlock, encodeBlock-even, encodeBlock-odd, encodeBlock-placed}
 use Rattle.laws.specs.BlockWrites.{withLevel, levelIndex, length-withLevel, levelPart-withLevel, levelPart-withLevel-other, getD-withLevel-total, levelPart-set-total}
 use Rattle.laws.specs.Proper.{Whole}

@@ -10,17 +10,18 @@ use lib.Dec.{ltb}
 use lib.ListN.{length, getD}
 use Rattle.model.specs.Level.{Bucket}
 use Rattle.model.specs.Words.{slot, slots, decodeLevel}
-use Rattle.laws.specs.Cases.{by-lt}
-use Rattle.laws.specs.Rise.{Rising}
-use Rattle.laws.specs.SoundFacts.{Chained, SoundBuckets, slots-length}
+use Rattle.laws.specs.Cond.{by-lt}
+use Rattle.laws.specs.Put.{Rising}
+use Rattle.laws.specs.LevelWords.{length-slots}
+use Rattle.laws.specs.SoundLevel.{Chained, SoundBuckets}
 
-abbrev pub place : ℕ → List Bucket → ℕ  -- how many leading buckets end at or before offset x
-place x [] = 0
-place x (b ∷ bs) = cond (ltb x (b .offset + b .width)) 0 (suc (place x bs))
+abbrev pub slotOf : ℕ → List Bucket → ℕ  -- how many leading buckets end at or before offset x
+slotOf x [] = 0
+slotOf x (b ∷ bs) = cond (ltb x (b .offset + b .width)) 0 (suc (slotOf x bs))
 
-pub place-le : (x : ℕ) (bs : List Bucket) → place x bs ≤ length bs
-place-le x [] = omega arith
-place-le x (b ∷ bs) = by-lt x (b .offset + b .width) (λ j. j ≤ suc (length bs)) (λ _. omega arith) (λ _. omega (arith, place-le x bs))
+pub slotOf-le : (x : ℕ) (bs : List Bucket) → slotOf x bs ≤ length bs
+slotOf-le x [] = omega arith
+slotOf-le x (b ∷ bs) = by-lt x (b .offset + b .width) (λ j. j ≤ suc (length bs)) (λ _. omega arith) (λ _. omega (arith, slotOf-le x bs))
 
 abbrev pub endOf : Bucket → ℕ
 endOf b = b .offset + b .width
@@ -52,21 +53,21 @@ module _ (none : Bucket) where
   rises-at a (b ∷ bs) (suc m) h r = omega (arith, r .0, rises-at (endOf b) bs m (omega arith) (r .1))
 
   -- one bucket that ends past x bounds the place
-  place-most : (x : ℕ) (bs : List Bucket) (m : ℕ) → m < length bs → x < endOf (getD bs m none) → place x bs ≤ m
-  place-most x [] m h past = absurd (omega arith)
-  place-most x (b ∷ bs) zero h past = by-lt x (endOf b) (λ j. j ≤ 0) (λ _. omega arith) (λ ended. absurd (omega arith))
-  place-most x (b ∷ bs) (suc m) h past =
-      by-lt x (endOf b) (λ j. j ≤ suc m) (λ _. omega arith) (λ _. omega (arith, place-most x bs m (omega arith) past))
+  slotOf-most : (x : ℕ) (bs : List Bucket) (m : ℕ) → m < length bs → x < endOf (getD bs m none) → slotOf x bs ≤ m
+  slotOf-most x [] m h past = absurd (omega arith)
+  slotOf-most x (b ∷ bs) zero h past = by-lt x (endOf b) (λ j. j ≤ 0) (λ _. omega arith) (λ ended. absurd (omega arith))
+  slotOf-most x (b ∷ bs) (suc m) h past =
+      by-lt x (endOf b) (λ j. j ≤ suc m) (λ _. omega arith) (λ _. omega (arith, slotOf-most x bs m (omega arith) past))
 
   -- and where the ends rise, so does one that does not
-  place-least : (x a : ℕ) (bs : List Bucket) (m : ℕ) → EndsRise a bs → m < length bs → endOf (getD bs m none) ≤ x → m < place x bs
-  place-least x a [] m r h ended = absurd (omega arith)
-  place-least x a (b ∷ bs) zero r h ended =
+  slotOf-least : (x a : ℕ) (bs : List Bucket) (m : ℕ) → EndsRise a bs → m < length bs → endOf (getD bs m none) ≤ x → m < slotOf x bs
+  slotOf-least x a [] m r h ended = absurd (omega arith)
+  slotOf-least x a (b ∷ bs) zero r h ended =
       by-lt x (endOf b) (λ j. 0 < j) (λ past. absurd (omega arith)) (λ _. omega arith)
-  place-least x a (b ∷ bs) (suc m) r h ended =
+  slotOf-least x a (b ∷ bs) (suc m) r h ended =
       by-lt x (endOf b) (λ j. suc m < j)
       (λ past. absurd (omega (arith, rises-at (endOf b) bs m (omega arith) (r .1))))
-      (λ _. omega (arith, place-least x (endOf b) bs m (r .1) (omega arith) ended))
+      (λ _. omega (arith, slotOf-least x (endOf b) bs m (r .1) (omega arith) ended))
 
 -- the bucket at a place is that of its slot
 slots-getD : (ws : List ℕ) (j c m : ℕ) (none : Bucket) → m < c → getD (slots ws j c) m none ≡ slot ws (j + m)
@@ -80,12 +81,12 @@ module _ (ws : List ℕ) (x m : ℕ) (h : m < getD ws 0 0) where
   here = let e : 0 + m ≡ m = omega arith in rw e at (slots-getD ws 0 (getD ws 0 0) m (slot ws m) h)
 
   inside : m < length (slots ws 0 (getD ws 0 0))
-  inside = omega (arith, slots-length ws 0 (getD ws 0 0))
+  inside = omega (arith, length-slots ws 0 (getD ws 0 0))
 
-  pub slot-most : x < endOf (slot ws m) → place x (decodeLevel ws .buckets) ≤ m
+  pub slot-most : x < endOf (slot ws m) → slotOf x (decodeLevel ws .buckets) ≤ m
   unfolding decodeLevel
-  slot-most past = place-most (slot ws m) x (slots ws 0 (getD ws 0 0)) m inside (rw here past)
+  slot-most past = slotOf-most (slot ws m) x (slots ws 0 (getD ws 0 0)) m inside (rw here past)
 
-  pub slot-least : EndsRise 0 (decodeLevel ws .buckets) → endOf (slot ws m) ≤ x → m < place x (decodeLevel ws .buckets)
+  pub slot-least : EndsRise 0 (decodeLevel ws .buckets) → endOf (slot ws m) ≤ x → m < slotOf x (decodeLevel ws .buckets)
   unfolding decodeLevel
-  slot-least rises ended = place-least (slot ws m) x 0 (slots ws 0 (getD ws 0 0)) m rises inside (rw here ended)
+  slot-least rises ended = slotOf-least (slot ws m) x 0 (slots ws 0 (getD ws 0 0)) m rises inside (rw here ended)

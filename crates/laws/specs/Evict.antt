@@ -1,5 +1,5 @@
 -- One round of insertion: a bucket put in and the lowest given up where there is no room, on words; and what a split leaves at a
--- level from 1, in which the rest goes on. Rests on the steps of `Batch` and the writes of `LevelWrites`.
+-- level from 1, in which the rest goes on. Rests on the steps of `Insert` and the writes of `LevelWrites`.
 use mathlib.Core.Bool.{cond}
 use mathlib.Core.Logic.{⊎-elim}
 use mathlib.Core.Path.{_≡_, refl, ap, _∙_}
@@ -13,13 +13,13 @@ use Rattle.shape.specs.Layout.{levelHeadLen, slotLen, slotStart}
 use Rattle.model.specs.Level.{Bucket, Level, levelOf, firstAfter, evict, insert}
 use Rattle.model.specs.Words.{encodeLevel}
 use Rattle.model.specs.Claim.{Each}
-use Rattle.laws.specs.Cases.{by-lt, lt-or-ge}
-use Rattle.laws.specs.Buckets.{raised, halves, holds-inside, holds-past}
-use Rattle.laws.specs.Batch.{Uncovered, Under, evict-none, evict-lowest, insert-held, insert-split}
-use Rattle.laws.specs.Moves.{raise, lower, putSlot}
-use Rattle.laws.specs.Rise.{Rising}
-use Rattle.laws.specs.SoundFacts.{SoundBucket, Chained}
-use Rattle.laws.specs.Place.{place}
+use Rattle.laws.specs.Cond.{by-lt, lt-or-ge}
+use Rattle.laws.specs.Bucket.{raised, halves, holds-inside, holds-past}
+use Rattle.laws.specs.Insert.{Uncovered, Under, evict-none, evict-lowest, insert-held, insert-split}
+use Rattle.laws.specs.SlotWrites.{raise, lower, putSlot}
+use Rattle.laws.specs.Put.{Rising}
+use Rattle.laws.specs.SoundLevel.{SoundBucket, Chained}
+use Rattle.laws.specs.SlotOf.{slotOf}
 use Rattle.laws.specs.LevelWrites.{getD-count, set-first, insert-encode, shift-encode}
 
 -- ---- a bucket put in
@@ -157,11 +157,11 @@ pub record Placed (x : ℕ) (bs : List Bucket) (j : ℕ) : Type 0 where
   pub passed : Passed x before
   pub ends : Ends x after
 
-pub place-parts : (x : ℕ) (bs : List Bucket) → Placed x bs (place x bs)
-place-parts x [] = record { before = []; after = []; same = refl; size = refl; passed = tt; ends = tt }
-place-parts x (b ∷ bs) =
+pub slotOf-parts : (x : ℕ) (bs : List Bucket) → Placed x bs (slotOf x bs)
+slotOf-parts x [] = record { before = []; after = []; same = refl; size = refl; passed = tt; ends = tt }
+slotOf-parts x (b ∷ bs) =
     let P : ℕ → Type 0 = λ j. Placed x (b ∷ bs) j in
-    let rest = place-parts x bs in
+    let rest = slotOf-parts x bs in
     by-lt x (b .offset + b .width) P
     (λ h. record { before = []; after = b ∷ bs; same = refl; size = refl; passed = tt; ends = h })
     (λ h. record {

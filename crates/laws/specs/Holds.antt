@@ -6,10 +6,10 @@ use mathlib.Core.List.{List, [], _∷_, _++_}
 use Prim.Native.Nat.{ℕ, _+_, _^_, _≤_, _<_}
 use native.Mathlib.Omega.{arith}
 use Rattle.model.specs.Level.{Bucket, holds}
-use Rattle.laws.specs.Cases.{lt-or-ge}
-use Rattle.laws.specs.Buckets.{holds-inside, holds-past}
-use Rattle.laws.specs.Batch.{Uncovered}
-use Rattle.laws.specs.SoundFacts.{Chained}
+use Rattle.laws.specs.Cond.{lt-or-ge}
+use Rattle.laws.specs.Bucket.{holds-inside, holds-past}
+use Rattle.laws.specs.Insert.{Uncovered}
+use Rattle.laws.specs.SoundLevel.{Chained}
 
 -- the first bucket of the list that covers x
 pub record Covered (x : ℕ) (bs : List Bucket) : Type 0 where

@@ -8,7 +8,7 @@ use borrow.Author.Tests.{ltb-true, leb-true, eqb-true, lt-ltb, le-leb, eq-eqb}
 use lib.Dec.{leb, ltb, eqb}
 use Rattle.shape.specs.LimitsLaws.{both}
 use Rattle.model.specs.Sound.{implies}
-use Rattle.laws.specs.Cases.{and-true}
+use Rattle.laws.specs.Cond.{and-true}
 
 -- the test b is true just where P holds
 abbrev pub Tests : Bool → Type 0 → Type 0

@@ -28,7 +28,7 @@ pub record Upper (n i : ℕ) : Type 0 where
   pub small : 2 ^ suc i < 2 ^ 32
 
 -- whether a bucket is not split
-pub record Whole (width weight full : ℕ) (whole : Bool) : Type 0 where
+pub record StaysWhole (width weight full : ℕ) (whole : Bool) : Type 0 where
   pub stays : whole ≡ true → 1 < width → weight < full
   pub goes : whole ≡ false → (1 < width) × (full ≤ weight)
 

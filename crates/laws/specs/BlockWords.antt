@@ -20,7 +20,7 @@ use Rattle.model.specs.Words.{decodeLevel, levelPart, decodeHalf, decodeBlock, 
 use Rattle.model.specs.Sound.{allFrom, soundLevel, soundHalf, soundBlock}
 use Rattle.laws.specs.Cond.{and-true}
 use Rattle.laws.specs.LevelWords.{first-two, decode-encode, length-encode, soundContent, soundLevel-encode, soundLevel-decode, encode-decode-sound}
-use Rattle.laws.specs.Parts.{append-cong, Each, allFrom-intro, allFrom-elim, allFrom-cong, map-upFrom, upFrom-cong, length-join, take-drop-join, join-consecutive, place-next}
+use Rattle.laws.specs.Parts.{append-cong, EachFrom, allFrom-intro, allFrom-elim, allFrom-cong, map-upFrom, upFrom-cong, length-join, take-drop-join, join-consecutive, place-next}
 
 -- ---- where the levels stand
 
@@ -100,7 +100,7 @@ module _ (s : Shape) (h : Half) (z : HalfSized s h) where
   abbrev part : ℕ → List ℕ
   part i = encodeLevel (s .n) (z .levelAt i)
 
-  length-part : Each 0 (suc (s .last)) (λ i. length (part i) ≡ levelWords s)
+  length-part : EachFrom 0 (suc (s .last)) (λ i. length (part i) ≡ levelWords s)
   length-part i low high = length-encode (s .n) (z .levelAt i) (z .few i (omega arith))
 
   -- the words of the levels, as parts of one size
@@ -124,7 +124,7 @@ module _ (s : Shape) (h : Half) (z : HalfSized s h) where
           (take-drop-join part (levelWords s) post 0 (suc (s .last)) length-part i i (zero-add i) (omega arith))
 
   module _ (parity : ℕ) (ws : List ℕ) (w : Placed s parity h z ws) where
-    decode-parts : Each 0 (suc (s .last)) (λ i. decodeLevel (levelPart s parity i ws) ≡ z .levelAt i)
+    decode-parts : EachFrom 0 (suc (s .last)) (λ i. decodeLevel (levelPart s parity i ws) ≡ z .levelAt i)
     decode-parts i low high = ap decodeLevel (w .parts i (omega arith)) ∙ decode-encode (s .n) (z .levelAt i)
 
     parts-joined : join (upFrom (λ i. levelPart s parity i ws) 0 (suc (s .last))) ≡ levelsWords s h
@@ -136,7 +136,7 @@ module _ (s : Shape) (h : Half) (z : HalfSized s h) where
     decodeHalf-placed =
         rw (w .total, upFrom-cong (λ i. decodeLevel (levelPart s parity i ws)) (z .levelAt) 0 (suc (s .last)) decode-parts, ← z .levels)
 
-    soundLevel-parts : Each 0 (suc (s .last)) (λ i. soundLevel s i (h .total) (levelPart s parity i ws) ≡ soundContent s i (h .total) (z .levelAt i))
+    soundLevel-parts : EachFrom 0 (suc (s .last)) (λ i. soundLevel s i (h .total) (levelPart s parity i ws) ≡ soundContent s i (h .total) (z .levelAt i))
     soundLevel-parts i low high = ap (soundLevel s i (h .total)) (w .parts i (omega arith)) ∙ soundLevel-encode s i (h .total) (z .levelAt i)
 
     -- soundness of the words is a fact of the half

@@ -19,7 +19,7 @@ use Rattle.model.specs.Block.{upFrom}
 use Rattle.model.specs.Words.{blockPart, shapeOf, clockOf, join, encodeHead, withBlock}
 use Rattle.model.specs.Sound.{maxClock, soundHead}
 use Rattle.laws.specs.Cond.{and-true}
-use Rattle.laws.specs.Parts.{Each, length-join, take-drop-join, withPart-join, join-consecutive, take-upFrom, length-withPart, getD-withPart-below, getD-withPart-above, part-withPart, place-next, places-apart}
+use Rattle.laws.specs.Parts.{EachFrom, length-join, take-drop-join, withPart-join, join-consecutive, take-upFrom, length-withPart, getD-withPart-below, getD-withPart-above, part-withPart, place-next, places-apart}
 
 -- ---- where the blocks stand
 
@@ -64,7 +64,7 @@ abbrev pub bookOf : Shape → ℕ → (ℕ → List ℕ) → List ℕ
 bookOf s clock f = encodeHead s clock ++ join (upFrom f 0 (s .g))
 
 module _ (s : Shape) (clock : ℕ) (f : ℕ → List ℕ) (sized : (j : ℕ) → j < s .g → length (f j) ≡ blockWords s) where
-  blocks-sized : Each 0 (s .g) (λ j. length (f j) ≡ blockWords s)
+  blocks-sized : EachFrom 0 (s .g) (λ j. length (f j) ≡ blockWords s)
   blocks-sized j low high = sized j (omega arith)
 
   -- a book has the length of the layout

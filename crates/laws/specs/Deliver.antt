@@ -15,7 +15,7 @@ use Rattle.model.specs.Words.{levelPart, decodeLevel, decodeHalf, decodeBlock, 
 use Rattle.laws.specs.LevelWords.{length-encode}
 use Rattle.laws.specs.InsertSound.{insert-sound}
 use Rattle.laws.specs.BlockWords.{HalfSized, soundHalf-level, length-levelPart}
-use Rattle.laws.specs.Proper.{Open, Whole}
+use Rattle.laws.specs.Proper.{Insertable, Whole}
 use Rattle.laws.specs.BlockSound.{insertAll-upFrom}
 use Rattle.laws.specs.HalfWrites.{Same, halfOf-decode, whole-half, whole-level, withLevels, length-written, levelPart-written-above, placed-written, same-written, encode-withHalf}
 
@@ -86,8 +86,8 @@ module _ (s : Shape) (stamp v : ℕ) (ws : List ℕ) where
         levelPart-written-above s parity half wordsAfter after-words ws (w .size) (getD ws (totalStart parity) 0 + v) i (omega arith) i (omega arith)
 
     -- and can take the delivery where the half can
-    pub level-open : 0 < v → getD ws (totalStart parity) 0 + v ≤ 2 ^ s .m → (i : ℕ) → i ≤ s .last → Open s i (offsetOf s stamp) v (levelPart s parity i ws)
-    level-open some room i low = record {
+    pub level-insertable : 0 < v → getD ws (totalStart parity) 0 + v ≤ 2 ^ s .m → (i : ℕ) → i ≤ s .last → Insertable s i (offsetOf s stamp) v (levelPart s parity i ws)
+    level-insertable some room i low = record {
       total = getD ws (totalStart parity) 0;
       proper = w .proper;
       index = low;

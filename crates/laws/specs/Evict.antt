@@ -149,7 +149,7 @@ Ends x [] = Unit {0}
 Ends x (b ∷ bs) = x < b .offset + b .width
 
 -- the buckets parted before slot j
-pub record Placed (x : ℕ) (bs : List Bucket) (j : ℕ) : Type 0 where
+pub record PartedAt (x : ℕ) (bs : List Bucket) (j : ℕ) : Type 0 where
   pub before : List Bucket
   pub after : List Bucket
   pub same : bs ≡ before ++ after
@@ -157,10 +157,10 @@ pub record Placed (x : ℕ) (bs : List Bucket) (j : ℕ) : Type 0 where
   pub passed : Passed x before
   pub ends : Ends x after
 
-pub slotOf-parts : (x : ℕ) (bs : List Bucket) → Placed x bs (slotOf x bs)
+pub slotOf-parts : (x : ℕ) (bs : List Bucket) → PartedAt x bs (slotOf x bs)
 slotOf-parts x [] = record { before = []; after = []; same = refl; size = refl; passed = tt; ends = tt }
 slotOf-parts x (b ∷ bs) =
-    let P : ℕ → Type 0 = λ j. Placed x (b ∷ bs) j in
+    let P : ℕ → Type 0 = λ j. PartedAt x (b ∷ bs) j in
     let rest = slotOf-parts x bs in
     by-lt x (b .offset + b .width) P
     (λ h. record { before = []; after = b ∷ bs; same = refl; size = refl; passed = tt; ends = h })

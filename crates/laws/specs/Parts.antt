@@ -17,26 +17,26 @@ use Rattle.model.specs.Sound.{allFrom}
 use Rattle.laws.specs.Cond.{lt-or-ge, and-true}
 
 -- P holds of i, i + 1 and so on, c numbers
-abbrev pub Each : ℕ → ℕ → (ℕ → Type 0) → Type 0
-Each i c P = (j : ℕ) → i ≤ j → j < i + c → P j
+abbrev pub EachFrom : ℕ → ℕ → (ℕ → Type 0) → Type 0
+EachFrom i c P = (j : ℕ) → i ≤ j → j < i + c → P j
 
-each-first : (P : ℕ → Type 0) (i c : ℕ) → Each i (suc c) P → P i
+each-first : (P : ℕ → Type 0) (i c : ℕ) → EachFrom i (suc c) P → P i
 each-first P i c e = e i (omega arith) (omega arith)
 
-each-rest : (P : ℕ → Type 0) (i c : ℕ) → Each i (suc c) P → Each (suc i) c P
+each-rest : (P : ℕ → Type 0) (i c : ℕ) → EachFrom i (suc c) P → EachFrom (suc i) c P
 each-rest P i c e j low high = e j (omega arith) (omega arith)
 
 -- ---- allFrom
 
 module _ (p : ℕ → Bool) where
   -- all hold if each does
-  pub allFrom-intro : (i c : ℕ) → Each i c (λ j. p j ≡ true) → allFrom p i c ≡ true
+  pub allFrom-intro : (i c : ℕ) → EachFrom i c (λ j. p j ≡ true) → allFrom p i c ≡ true
   allFrom-intro i zero e = refl
   allFrom-intro i (suc c) e =
       and-true (each-first (λ j. p j ≡ true) i c e) (allFrom-intro (suc i) c (each-rest (λ j. p j ≡ true) i c e))
 
   -- each holds if all do
-  pub allFrom-elim : (i c : ℕ) → allFrom p i c ≡ true → Each i c (λ j. p j ≡ true)
+  pub allFrom-elim : (i c : ℕ) → allFrom p i c ≡ true → EachFrom i c (λ j. p j ≡ true)
   allFrom-elim i zero e j low high = absurd (omega arith)
   allFrom-elim i (suc c) e j low high =
       let parts : (p i ≡ true) × (allFrom p (suc i) c ≡ true) = both e in
@@ -46,7 +46,7 @@ module _ (p : ℕ → Bool) where
       (lt-or-ge i j)
 
   -- the same for tests that agree
-  pub allFrom-cong : (q : ℕ → Bool) (i c : ℕ) → Each i c (λ j. p j ≡ q j) → allFrom p i c ≡ allFrom q i c
+  pub allFrom-cong : (q : ℕ → Bool) (i c : ℕ) → EachFrom i c (λ j. p j ≡ q j) → allFrom p i c ≡ allFrom q i c
   allFrom-cong q i zero e = refl
   allFrom-cong q i (suc c) e =
       rw (each-first (λ j. p j ≡ q j) i c e, allFrom-cong q (suc i) c (each-rest (λ j. p j ≡ q j) i c e))
@@ -60,7 +60,7 @@ module _ {A : Type 0} (f : ℕ → A) where
   map-upFrom g i (suc c) = rw (map-upFrom g (suc i) c)
 
   -- the same values from functions that agree
-  pub upFrom-cong : (g : ℕ → A) (i c : ℕ) → Each i c (λ j. f j ≡ g j) → upFrom f i c ≡ upFrom g i c
+  pub upFrom-cong : (g : ℕ → A) (i c : ℕ) → EachFrom i c (λ j. f j ≡ g j) → upFrom f i c ≡ upFrom g i c
   upFrom-cong g i zero e = refl
   upFrom-cong g i (suc c) e =
       rw (each-first (λ j. f j ≡ g j) i c e, upFrom-cong g (suc i) c (each-rest (λ j. f j ≡ g j) i c e))
@@ -104,14 +104,14 @@ module _ (i c d j : ℕ) (place : i + d ≡ j) (inside : d < c) where
 
 module _ (f : ℕ → List ℕ) (size : ℕ) where
   -- c parts of one size
-  pub length-join : (i c : ℕ) → Each i c (λ j. length (f j) ≡ size) → length (join (upFrom f i c)) ≡ c * size
+  pub length-join : (i c : ℕ) → EachFrom i c (λ j. length (f j) ≡ size) → length (join (upFrom f i c)) ≡ c * size
   length-join i zero e = sym (zero-mul size)
   length-join i (suc c) e =
       let first : length (f i) ≡ size = each-first (λ j. length (f j) ≡ size) i c e in
       let rest : length (join (upFrom f (suc i) c)) ≡ c * size = length-join (suc i) c (each-rest (λ j. length (f j) ≡ size) i c e) in
       simp length-append (omega (arith, suc-mul c size))
 
-  module _ (rest : List ℕ) (i c : ℕ) (sized : Each i c (λ j. length (f j) ≡ size)) (d j : ℕ) (place : i + d ≡ j) (inside : d < c) where
+  module _ (rest : List ℕ) (i c : ℕ) (sized : EachFrom i c (λ j. length (f j) ≡ size)) (d j : ℕ) (place : i + d ≡ j) (inside : d < c) where
     abbrev before : List ℕ
     before = join (upFrom f i d)
 

@@ -28,8 +28,8 @@ use Rattle.laws.specs.Parts.{allFrom-elim, upFrom-cong, replicate-upFrom}
 use Rattle.laws.specs.Refusals.{numberOf-pos, settle-accepted, settle-refused, AcceptedClock, accepted-clock, AcceptedDelivery, accepted-delivery, AcceptedQuery, accepted-query}
 use Rattle.judge.specs.Judge.{firstRefusal, Open, open-size, open-proper}
 use Rattle.book.specs.Part.{InBook}
-use Rattle.sweep.specs.Sweeps.{AllSound, emptied, advanced}
-use Rattle.fill.specs.Fill.{Takes}
+use Rattle.sweep.specs.Sweeps.{AllSound, cleared, advanced}
+use Rattle.fill.specs.Fill.{Deliverable}
 
 module _ (ws : List ℕ) (call : Call) where
   -- a refused call answers the number and changes nothing
@@ -80,9 +80,9 @@ unfolding bookWords
 book-long s ws h = omega arith
 
 -- an accepted make's words
-made-swept : (s : Shape) (ws : List ℕ) → take headLen (headed s 0 ws) ++ join (upFrom (emptied s) 0 (s .g)) ≡ made s
+made-swept : (s : Shape) (ws : List ℕ) → take headLen (headed s 0 ws) ++ join (upFrom (cleared s) 0 (s .g)) ≡ made s
 unfolding made
-made-swept s ws = ap (λ (z : List (List ℕ)). encodeHead s 0 ++ join z) (sym (replicate-upFrom (emptied s 0) 0 (s .g)))
+made-swept s ws = ap (λ (z : List (List ℕ)). encodeHead s 0 ++ join z) (sym (replicate-upFrom (cleared s 0) 0 (s .g)))
 
 -- ---- clock
 
@@ -134,9 +134,9 @@ module _ (ws : List ℕ) (s : Shape) (grade stamp volume : ℕ) (same : s ≡ sh
   delivery-inside =
       rw same (record { proper = record { limits = soundHead-limits ws (facts-d .head); last = refl }; size = facts-d .size; inside = facts-d .inside })
 
-  pub delivery-takes : Takes s stamp volume (blockPart s grade ws)
+  pub delivery-deliverable : Deliverable s stamp volume (blockPart s grade ws)
   unfolding bookView
-  delivery-takes =
+  delivery-deliverable =
       let b = delivery-inside in
       record {
         whole = record { proper = b .proper; size = length-blockPart s grade (b .inside) ws (b .size); sound = rw same (facts-d .sound) };
@@ -182,7 +182,7 @@ module _ (s : Shape) (p : Proper s) (ws : List ℕ) where
       (make-misfit ws (s .k) (s .n) (s .m) (s .g) inside (λ e. h (e ∙ ap bookWords (shaped-proper s p))))
 
   pub made-outcome : length ws ≡ bookWords s
-      → outcomeOf (replyOf Done) (take headLen (headed s 0 ws) ++ join (upFrom (emptied s) 0 (s .g))) ≡ perform ws (Make (s .k) (s .n) (s .m) (s .g))
+      → outcomeOf (replyOf Done) (take headLen (headed s 0 ws) ++ join (upFrom (cleared s) 0 (s .g))) ≡ perform ws (Make (s .k) (s .n) (s .m) (s .g))
   unfolding replyOf
   made-outcome h =
       ap (outcomeOf (accepted [])) (made-swept s ws ∙ ap made (sym (shaped-proper s p)))

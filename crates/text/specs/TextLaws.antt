@@ -17,7 +17,7 @@ use Rattle.model.specs.declared.Refusal.{Refusal}
 use Rattle.model.specs.declared.Refusal.the-variants.{Shape, Length, Grade, Volume, Window, Limit, Head, Ahead, Late, Back, Block, Full}
 use Rattle.laws.specs.Cond.{by-lt, and-true}
 use Rattle.grammar.specs.Grammar.{every, isDigit, valueFrom, valueOf, isDecimal}
-use Rattle.text.specs.Text.{digitsOf, decimal, numbered, sumWord, refusedWord, acceptedText, textOf, unreadText, written, put}
+use Rattle.text.specs.Text.{digitsOf, decimal, numbered, sumWord, refusedWord, acceptedText, textOf, unreadText, written, stored}
 
 -- a text and another after it
 sets-append : (s t l : List ℕ) (i : ℕ) → sets l i (s ++ t) ≡ sets (sets l i s) (i + length s) t
@@ -32,14 +32,14 @@ module _ (text out : List ℕ) (short : length out < 32) where
   unfolding written
   written-none = rw (lt-ltb (length out) 32 short)
 
-  pub put-none : out ≡ put text out
-  unfolding put
-  put-none = rw (lt-ltb (length out) 32 short)
+  pub stored-none : out ≡ stored text out
+  unfolding stored
+  stored-none = rw (lt-ltb (length out) 32 short)
 
 -- in any other a text is stored from the front on
 pub stored-front : (text out : List ℕ) {r : ℕ} {exit : List ℕ} → 32 ≤ length out → length text ≤ 32
-    → (r ≡ length text) × (exit ≡ sets out 0 text) → (r ≡ written text out) × (exit ≡ put text out)
-unfolding written put
+    → (r ≡ length text) × (exit ≡ sets out 0 text) → (r ≡ written text out) × (exit ≡ stored text out)
+unfolding written stored
 stored-front text out room fits stored =
     rw (le-ltb (length out) 32 room)
     (stored .0, stored .1 ∙ sets-eq text out 0 (omega arith) ∙ rw zero-add)

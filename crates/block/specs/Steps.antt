@@ -18,12 +18,12 @@ use Rattle.model.specs.Block.{upFrom, interval, offsetOf, sumFrom, serving, ser
 use Rattle.model.specs.Words.{levelPart, decodeLevel, decodeHalf, decodeBlock}
 use Rattle.model.specs.Sound.{allFrom, soundLevel, soundHalf}
 use Rattle.scan.specs.Steps.{sumFrom-zero}
-use Rattle.laws.specs.Tally.{sumFrom-falls}
-use Rattle.laws.specs.SoundFacts.{slots-length}
-use Rattle.laws.specs.Kept.{sound-serves}
-use Rattle.laws.specs.BlockKept.{serving-index}
+use Rattle.laws.specs.SumFrom.{sumFrom-falls}
+use Rattle.laws.specs.InsertSound.{sound-serves}
+use Rattle.laws.specs.BlockSound.{serving-index}
+use Rattle.laws.specs.LevelWords.{length-slots}
 use Rattle.laws.specs.BlockWords.{levelStart-fits}
-use Rattle.laws.specs.Halves.{halfOf-decode, total-decode, whole-total, whole-level}
+use Rattle.laws.specs.HalfWrites.{halfOf-decode, total-decode, whole-total, whole-level}
 use Rattle.laws.specs.Proper.{Sized, Whole}
 
 -- the words of a block have room for level i, in the half of a parity
@@ -57,7 +57,7 @@ module _ (s : Shape) (parity : ℕ) (ws : List ℕ) (i : ℕ) where
     count : suc (s .last) - i ≡ suc (suc (s .last) - (i + 1))
     count = omega arith
 
-    pub levelsFrom-step : levelsFrom s parity ws i ≡ levelAt s parity ws i ∷ levelsFrom s parity ws (i + 1)
+    levelsFrom-step : levelsFrom s parity ws i ≡ levelAt s parity ws i ∷ levelsFrom s parity ws (i + 1)
     levelsFrom-step = ap (upFrom (levelAt s parity ws) i) count ∙ rw (← add-one i)
 
     pub soundFrom-step : soundFrom s parity ws i ≡ (soundAt s parity ws i && soundFrom s parity ws (i + 1))
@@ -95,7 +95,7 @@ module _ (s : Shape) (ws : List ℕ) (w : Whole s ws) (parity : ℕ) (p : parity
   unfolding decodeLevel
   count-few i low =
       let part : List ℕ = levelPart s parity i ws in
-      omega (arith, whole-level s ws w parity p i low .few, slots-length part 0 (getD part 0 0))
+      omega (arith, whole-level s ws w parity p i low .few, length-slots part 0 (getD part 0 0))
 
   -- totals and sums are small
   pub total-small : getD ws (totalStart parity) 0 ≤ 2 ^ 24

@@ -11,11 +11,11 @@ use lib.Seq.{getD-set-other}
 use Rattle.shape.specs.Layout.{levelHeadLen, slotLen, slotStart}
 use Rattle.model.specs.Level.{Bucket, bucketOf, levelOf, evict}
 use Rattle.model.specs.Words.{slot, encodeLevel}
-use Rattle.laws.specs.Buckets.{halves}
-use Rattle.laws.specs.Moves.{raise, lower, putSlot, length-putSlot}
+use Rattle.laws.specs.Bucket.{halves}
+use Rattle.laws.specs.SlotWrites.{raise, lower, putSlot, length-putSlot}
 use Rattle.laws.specs.LevelWords.{length-encode}
 use Rattle.laws.specs.LevelWrites.{putSlot-encode, shift-encode}
-use Rattle.laws.specs.Round.{headOffset, getD-head, count-parts, Passed, put-room, put-lowest, put-shift}
+use Rattle.laws.specs.Evict.{headOffset, getD-head, count-parts, Passed, put-room, put-lowest, put-shift}
 
 -- the words of a level of n slots can take a bucket at slot j
 pub record Takes (n j : ℕ) (ws : List ℕ) : Type 0 where

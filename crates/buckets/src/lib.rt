@@ -13,8 +13,8 @@ ghost use lib.ListN.{length, getD, set};
 ghost use Rattle.shape.specs.Layout.{levelHeadLen, slotLen, slotStart};
 ghost use Rattle.model.specs.Level.{bucketOf};
 ghost use Rattle.model.specs.Words.{slot};
-ghost use Rattle.laws.specs.Buckets.{halves};
-ghost use Rattle.laws.specs.Moves.{raise, lower, putSlot};
+ghost use Rattle.laws.specs.Bucket.{halves};
+ghost use Rattle.laws.specs.SlotWrites.{raise, lower, putSlot};
 ghost use Rattle.buckets.specs.Steps.{Takes, Becomes};
 
 // Moves m words, from `from` on, up by one slot.

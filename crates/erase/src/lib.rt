@@ -11,7 +11,7 @@ ghost use Rattle.model.specs.Words.{decodeBlock, encodeBlock};
 ghost use Rattle.model.specs.Block.{emptyHalf, advance};
 ghost use Rattle.laws.specs.Proper.{Sized, Whole};
 ghost use Rattle.laws.specs.BlockWrites.{withLevel};
-ghost use Rattle.laws.specs.Halves.{emptyWords, emptied};
+ghost use Rattle.laws.specs.HalfWrites.{emptyWords, emptied};
 ghost use Rattle.block.specs.Steps.{LevelIn};
 
 fn zero(words: &mut [u32])

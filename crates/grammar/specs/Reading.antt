@@ -11,7 +11,7 @@ use lib.Seq.{append-snoc}
 use borrow.Author.Tests.{eq-eqb, ne-eqb, le-leb, lt-leb}
 use Rattle.shape.specs.Limits.{Reply}
 use Rattle.shape.specs.LimitsLaws.{between-limits}
-use Rattle.laws.specs.Cases.{eq-or-ne, lt-or-ge, and-false}
+use Rattle.laws.specs.Cond.{eq-or-ne, lt-or-ge, and-false}
 use Rattle.grammar.specs.declared.Kept.{Kept}
 use Rattle.grammar.specs.declared.Kept.the-variants.{None, One, Two, Three}
 use Rattle.grammar.specs.declared.State.{State}

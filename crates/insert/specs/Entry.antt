@@ -4,7 +4,7 @@ use mathlib.Core.Bool.{Bool, true, false}
 use mathlib.Core.List.{List, [], _∷_, _++_}
 use mathlib.Core.Logic.{⊎-elim}
 use mathlib.Core.Path.{_≡_, sym, ap, subst, _∙_}
-use Prim.Native.Nat.{ℕ, zero, suc, _+_, _*_, _^_, _≤_, _<_}
+use Prim.Native.Nat.{ℕ, zero, suc, _+_, _^_, _≤_, _<_}
 use native.Mathlib.Omega.{arith}
 use lib.ListN.{length, getD, set}
 use lib.Pow.{pow-mono}
@@ -13,15 +13,15 @@ use Rattle.shape.specs.Layout.{slotStart}
 use Rattle.model.specs.Level.{Bucket, bucketOf, levelOf, insert}
 use Rattle.model.specs.Words.{slot, decodeLevel, encodeLevel}
 use Rattle.model.specs.Sound.{weightOf}
-use Rattle.laws.specs.Cases.{eq-or-ne}
-use Rattle.laws.specs.Batch.{Under, Over, insert-below, insert-put, insert-new}
+use Rattle.laws.specs.Cond.{eq-or-ne}
+use Rattle.laws.specs.Insert.{Under, Over, insert-below, insert-put, insert-new}
 use Rattle.laws.specs.LevelWords.{length-slots, encode-decode-sound}
 use Rattle.laws.specs.LevelWrites.{slot-encode, set-weight}
-use Rattle.laws.specs.Place.{place, EndsRise, sound-rises}
-use Rattle.laws.specs.Proper.{Open}
-use Rattle.laws.specs.Rise.{Rising}
-use Rattle.laws.specs.SoundFacts.{Chained, SoundBuckets, SoundLevel, words-tests}
-use Rattle.laws.specs.Round.{Ends, Placed, place-parts, count-parts, chained-covering, rising-passed, rising-at}
+use Rattle.laws.specs.SlotOf.{slotOf, EndsRise, sound-rises}
+use Rattle.laws.specs.Proper.{Insertable}
+use Rattle.laws.specs.Put.{Rising}
+use Rattle.laws.specs.SoundLevel.{Chained, SoundBuckets, SoundLevel, words-tests}
+use Rattle.laws.specs.Evict.{Ends, PartedAt, slotOf-parts, count-parts, chained-covering, rising-passed, rising-at}
 use Rattle.buckets.specs.Steps.{Takes, takes-at, Becomes}
 use Rattle.insert.specs.Ready.{Upper, Covers, Ready, ready}
 
@@ -29,7 +29,7 @@ weight-part : (before : List Bucket) (b : Bucket) (after : List Bucket) → b .w
 weight-part [] b after = omega arith
 weight-part (c ∷ before) b after = omega (arith, weight-part before b after)
 
-module _ {s : Shape} {i x v : ℕ} {ws : List ℕ} (o : Open s i x v ws) where
+module _ {s : Shape} {i x v : ℕ} {ws : List ℕ} (o : Insertable s i x v ws) where
   sound : SoundLevel (s .k) (s .n) i (o .total) (decodeLevel ws)
   sound = words-tests s i (o .total) ws .0 (o .sound) .1
 
@@ -58,12 +58,12 @@ module _ {s : Shape} {i x v : ℕ} {ws : List ℕ} (o : Open s i x v ws) where
 
 -- the slot j that the search finds for x, if x is not below F
 pub record Found (s : Shape) (i x v : ℕ) (ws : List ℕ) (j : ℕ) : Type 0 where
-  pub opened : Open s i x v ws
+  pub insertable : Insertable s i x v ws
   pub kept : getD ws 1 0 ≤ x
-  pub parts : Placed x (decodeLevel ws .buckets) j
+  pub parts : PartedAt x (decodeLevel ws .buckets) j
 
-pub found : {s : Shape} {i x v : ℕ} {ws : List ℕ} {j : ℕ} → Open s i x v ws → getD ws 1 0 ≤ x → j ≡ place x (decodeLevel ws .buckets) → Found s i x v ws j
-found {x} {ws} o kept e = record { opened = o; kept = kept; parts = rw e (place-parts x (decodeLevel ws .buckets)) }
+pub found : {s : Shape} {i x v : ℕ} {ws : List ℕ} {j : ℕ} → Insertable s i x v ws → getD ws 1 0 ≤ x → j ≡ slotOf x (decodeLevel ws .buckets) → Found s i x v ws j
+found {x} {ws} o kept e = record { insertable = o; kept = kept; parts = rw e (slotOf-parts x (decodeLevel ws .buckets)) }
 
 module _ {s : Shape} {i x v : ℕ} {ws : List ℕ} {j : ℕ} (e : Found s i x v ws j) where
   abbrev bs : List Bucket
@@ -78,15 +78,15 @@ module _ {s : Shape} {i x v : ℕ} {ws : List ℕ} {j : ℕ} (e : Found s i x v 
     decoded = ap (levelOf (getD ws 1 0)) same
 
     parted : ws ≡ encodeLevel (s .n) (levelOf (getD ws 1 0) (before ++ after))
-    parted = held (e .opened) ∙ ap (encodeLevel (s .n)) decoded
+    parted = held (e .insertable) ∙ ap (encodeLevel (s .n)) decoded
 
     parted-few : length (before ++ after) ≤ s .n
-    parted-few = rw same at (sound (e .opened) .few)
+    parted-few = rw same at (sound (e .insertable) .few)
 
   -- the weight of a bucket and v fit a word
   fits : (b : Bucket) (after : List Bucket) → bs ≡ before ++ b ∷ after → b .weight + v < 2 ^ 32
   fits b after same =
-      let o = e .opened in
+      let o = e .insertable in
       omega (arith, ap weightOf same, weight-part before b after, sound o .within, total-fits o)
 
 -- ---- a level from 1
@@ -95,7 +95,7 @@ chained-of : (k i f : ℕ) (bs : List Bucket) → 0 < i → SoundBuckets k i f b
 chained-of k zero f bs h g = absurd (omega arith)
 chained-of k (suc j) f bs h g = g .1
 
-upper-limits : {s : Shape} {i x v : ℕ} {ws : List ℕ} → Open s i x v ws → 0 < i → Upper (s .n) i
+upper-limits : {s : Shape} {i x v : ℕ} {ws : List ℕ} → Insertable s i x v ws → 0 < i → Upper (s .n) i
 upper-limits {i} o low =
     let top = o .proper .limits in
     let high : i ≤ 24 = omega (arith, o .index, o .proper .last, top .high-m) in
@@ -105,7 +105,7 @@ upper-limits {i} o low =
 pub found-ready : {s : Shape} {i x v : ℕ} {ws : List ℕ} {j : ℕ} → Found s i x v ws j → 0 < i → Ready (s .n) i x v j ws
 unfolding decodeLevel
 found-ready {s} {i} {x} {v} {ws} {j} e low =
-    let o = e .opened in
+    let o = e .insertable in
     let p = e .parts in
     let f = getD ws 1 0 in
     let count = length (bs e) in
@@ -137,21 +137,21 @@ module _ {s : Shape} {x v : ℕ} {ws : List ℕ} {j : ℕ} (e : Found s 0 x v ws
   abbrev f : ℕ
   f = getD ws 1 0
 
-  abbrev p : Placed x (bs e) j
+  abbrev p : PartedAt x (bs e) j
   p = e .parts
 
   rising : (after : List Bucket) → bs e ≡ p .before ++ after → Rising (s .k) f (p .before ++ after)
   unfolding decodeLevel
-  rising after same = subst (Rising (s .k) f) same (sound (e .opened) .parts .1)
+  rising after same = subst (Rising (s .k) f) same (sound (e .insertable) .parts .1)
 
   under : Under x (p .before)
   under = rising-passed (s .k) x f (p .before) (p .after) (p .passed) (rising (p .after) (p .same))
 
   pub found-takes : Takes (s .n) j ws
   found-takes =
-      let top = e .opened .proper .limits in
+      let top = e .insertable .proper .limits in
       takes-at (s .n) f x (p .before) (p .after) ws j (p .size) (parted e (p .after) (p .same)) (parted-few e (p .after) (p .same)) (p .passed)
-      (omega (arith, small (e .opened))) (omega (arith, top .low-n)) (top .high-n)
+      (omega (arith, small (e .insertable))) (omega (arith, top .low-n)) (top .high-n)
 
   module _ (b : Bucket) (after : List Bucket) (same : bs e ≡ p .before ++ b ∷ after) where
     here : slot ws j ≡ b
@@ -186,7 +186,7 @@ module _ {s : Shape} {x v : ℕ} {ws : List ℕ} {j : ℕ} (e : Found s 0 x v ws
       put .words f (p .before) (p .after) (p .size) (parted e (p .after) (p .same))
       ∙ ap (encodeLevel (s .n))
       (sym (ap (insert (s .n) 0 x v) (decoded e (p .after) (p .same))
-      ∙ insert-new (s .n) x f (e .kept) (p .before) under (p .after) (over (p .after) (p .same) (p .ends)) (parted-few e (p .after) (p .same)) v (e .opened .some)))
+      ∙ insert-new (s .n) x f (e .kept) (p .before) under (p .after) (over (p .after) (p .same) (p .ends)) (parted-few e (p .after) (p .same)) v (e .insertable .some)))
     where
       over : (after : List Bucket) → bs e ≡ p .before ++ after → Ends x after → Over x after
       over [] same ends = tt

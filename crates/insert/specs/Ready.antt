@@ -3,7 +3,7 @@
 use mathlib.Core.Bool.{Bool, true, false, cond}
 use mathlib.Core.List.{List, [], _∷_, _++_, append-assoc}
 use mathlib.Core.Path.{_≡_, refl, sym, ap, subst, _∙_}
-use Prim.Native.Nat.{ℕ, zero, suc, _+_, _-_, _*_, _/_, _^_, _≤_, _<_}
+use Prim.Native.Nat.{ℕ, zero, suc, _+_, _-_, _/_, _^_, _≤_, _<_}
 use native.Mathlib.Nat.{pow-suc}
 use native.Mathlib.Omega.{arith}
 use lib.Dec.{ltb}
@@ -12,11 +12,11 @@ use lib.Pow.{pow-pos}
 use Rattle.shape.specs.Layout.{slotStart}
 use Rattle.model.specs.Level.{Bucket, Level, bucketOf, levelOf, evict, insert}
 use Rattle.model.specs.Words.{slot, decodeLevel, encodeLevel}
-use Rattle.laws.specs.Buckets.{halves}
-use Rattle.laws.specs.Batch.{insert-below}
+use Rattle.laws.specs.Bucket.{halves}
+use Rattle.laws.specs.Insert.{insert-below}
 use Rattle.laws.specs.LevelWords.{decode-encode}
 use Rattle.laws.specs.LevelWrites.{slot-encode, set-weight}
-use Rattle.laws.specs.Round.{count-parts, Passed, passed-snoc, Round, both, upper, upper-held, upper-split, one-round}
+use Rattle.laws.specs.Evict.{count-parts, Passed, passed-snoc, Round, both, upper, upper-held, upper-split, one-round}
 use Rattle.buckets.specs.Steps.{Takes, takes-at, Becomes}
 
 -- the limits of a level from 1
@@ -28,7 +28,7 @@ pub record Upper (n i : ℕ) : Type 0 where
   pub small : 2 ^ suc i < 2 ^ 32
 
 -- whether a bucket stays whole
-pub record Whole (width weight full : ℕ) (whole : Bool) : Type 0 where
+pub record StaysWhole (width weight full : ℕ) (whole : Bool) : Type 0 where
   pub stays : whole ≡ true → 1 < width → weight < full
   pub goes : whole ≡ false → (1 < width) × (full ≤ weight)
 

@@ -15,13 +15,13 @@ ghost use lib.ListN.{length, getD};
 ghost use Rattle.shape.specs.Layout.{slotStart};
 ghost use Rattle.model.specs.Level.{insert};
 ghost use Rattle.model.specs.Words.{decodeLevel, encodeLevel};
-ghost use Rattle.laws.specs.Proper.{Open};
-ghost use Rattle.insert.specs.Ready.{Ready, Whole};
+ghost use Rattle.laws.specs.Proper.{Insertable};
+ghost use Rattle.insert.specs.Ready.{Ready, StaysWhole};
 ghost use Rattle.insert.specs.Entry.{At};
 
 // Whether a bucket of this width stays whole at this weight: a full one is split.
 fn stays_whole(width: u32, weight: u64, full: u64) -> bool
-    ensures { λ r. ⌜ Whole width weight full r ⌝ }
+    ensures { λ r. ⌜ StaysWhole width weight full r ⌝ }
 {
     if width <= 1 {
         return true;
@@ -70,7 +70,7 @@ fn is_at(level: &[u32], j: usize, x: u32) -> bool
 
 // Level 0: the bucket of offset x gains v; if there is none, one of weight v is made.
 fn insert_single(level: &mut [u32], s: Shape, x: u32, v: u64)
-    requires { ⌜ Open s 0 x v (now level) × (getD (now level) 1 0 ≤ x) ⌝ }
+    requires { ⌜ Insertable s 0 x v (now level) × (getD (now level) 1 0 ≤ x) ⌝ }
     ensures { λ _. ⌜ now (level .exit) ≡ encodeLevel (s .n) (insert (s .n) 0 x v (decodeLevel (now (level .entry)))) ⌝ }
 {
     let j = find(level, x);
@@ -83,7 +83,7 @@ fn insert_single(level: &mut [u32], s: Shape, x: u32, v: u64)
 
 // v decilitres at offset x into level i. Below F they are ignored.
 pub fn insert(level: &mut [u32], s: Shape, i: u8, x: u32, v: u64)
-    requires { ⌜ Open s i x v (now level) ⌝ }
+    requires { ⌜ Insertable s i x v (now level) ⌝ }
     ensures { λ _. ⌜ now (level .exit) ≡ encodeLevel (s .n) (insert (s .n) i x v (decodeLevel (now (level .entry)))) ⌝ }
 {
     if x < level[1] {

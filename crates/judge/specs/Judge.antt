@@ -78,11 +78,11 @@ roomRefusal s ws grade stamp volume =
     (cond (ltb (2 ^ s .m) (halfOf (interval s stamp) (decodeBlock s (blockPart s grade ws)) .total + volume)) 12 0)
 
 -- a call that begins with these refusals
-abbrev pub Begins : Call → Type 0
+abbrev Begins : Call → Type 0
 Begins = ByCall ⊥ (Unit {0}) (λ _. Unit {0}) (λ _ _. Unit {0})
 
 -- the refusals of such a call after these
-abbrev pub restOf : View → Call → List (Bool × ℕ)
+abbrev restOf : View → Call → List (Bool × ℕ)
 restOf v call = drop 3 (refusals v call)
 
 begins : (v : View) (call : Call) → Begins call → refusals v call ≡ opened v ++ restOf v call
@@ -119,7 +119,7 @@ module _ (ws : List ℕ) (s : Shape) (clock : ℕ) (o : Open ws s clock) where
   -- ---- the refusals that are left
 
   -- by the shape and the clock that were read
-  pub rest-judges : (call : Call) → Begins call → firstRefusal ws call ≡ firstOf (restOf (viewOf s clock ws) call)
+  rest-judges : (call : Call) → Begins call → firstRefusal ws call ≡ firstOf (restOf (viewOf s clock ws) call)
   unfolding openedNumber
   rest-judges call b =
       ap firstOf (begins (bookView ws) call b) ∙ passes (bookView ws) (restOf (bookView ws) call) (o .number)

@@ -18,9 +18,9 @@ use Rattle.model.specs.Level.{Level}
 use Rattle.model.specs.Block.{Half, Block, upFrom}
 use Rattle.model.specs.Words.{decodeLevel, levelPart, decodeHalf, decodeBlock, join, encodeLevel, encodeBlock}
 use Rattle.model.specs.Sound.{allFrom, soundLevel, soundHalf, soundBlock}
-use Rattle.laws.specs.Cases.{and-true}
+use Rattle.laws.specs.Cond.{and-true}
 use Rattle.laws.specs.LevelWords.{first-two, decode-encode, length-encode, soundContent, soundLevel-encode, soundLevel-decode, encode-decode-sound}
-use Rattle.laws.specs.Parts.{append-cong, Each, allFrom-intro, allFrom-elim, allFrom-cong, map-upFrom, upFrom-cong, length-join, take-drop-join, join-consecutive, place-next}
+use Rattle.laws.specs.Parts.{append-cong, EachFrom, allFrom-intro, allFrom-elim, allFrom-cong, map-upFrom, upFrom-cong, length-join, take-drop-join, join-consecutive, place-next}
 
 -- ---- where the levels start
 
@@ -30,7 +30,7 @@ halfWords s = suc (s .last) * levelWords s
 
 module _ (s : Shape) where
   -- where a level starts, in terms of halves
-  pub levelStart-half : (parity i : ℕ) → levelStart s parity i ≡ 2 + parity * halfWords s + i * levelWords s
+  levelStart-half : (parity i : ℕ) → levelStart s parity i ≡ 2 + parity * halfWords s + i * levelWords s
   unfolding levelStart halfWords
   levelStart-half parity i = rw (add-one, add-mul (parity * suc (s .last)) i (levelWords s), mul-assoc parity (suc (s .last)) (levelWords s)) (omega arith)
 
@@ -66,7 +66,7 @@ module _ (s : Shape) where
       ∙ ap (λ (a : ℕ). take (halfWords s) (drop a ws)) first
 
   -- words of a block's length are two totals and the parts of their levels
-  pub levels-joined : (ws : List ℕ) → length ws ≡ blockWords s
+  levels-joined : (ws : List ℕ) → length ws ≡ blockWords s
       → ws ≡ getD ws 0 0 ∷ getD ws 1 0
       ∷ (join (upFrom (λ i. levelPart s 0 i ws) 0 (suc (s .last))) ++ join (upFrom (λ i. levelPart s 1 i ws) 0 (suc (s .last))))
   levels-joined ws size =
@@ -88,7 +88,7 @@ pub record HalfSized (s : Shape) (h : Half) : Type 0 where
   pub few : (i : ℕ) → i ≤ s .last → length (levelAt i .buckets) ≤ s .n
 
 -- the words of the levels of a half
-abbrev pub levelsWords : Shape → Half → List ℕ
+abbrev levelsWords : Shape → Half → List ℕ
 levelsWords s h = join (map (encodeLevel (s .n)) (h .levels))
 
 -- words in which the half of this parity is in its place
@@ -100,7 +100,7 @@ module _ (s : Shape) (h : Half) (z : HalfSized s h) where
   abbrev part : ℕ → List ℕ
   part i = encodeLevel (s .n) (z .levelAt i)
 
-  length-part : Each 0 (suc (s .last)) (λ i. length (part i) ≡ levelWords s)
+  length-part : EachFrom 0 (suc (s .last)) (λ i. length (part i) ≡ levelWords s)
   length-part i low high = length-encode (s .n) (z .levelAt i) (z .few i (omega arith))
 
   -- the words of the levels, as parts of one size
@@ -124,23 +124,23 @@ module _ (s : Shape) (h : Half) (z : HalfSized s h) where
           (take-drop-join part (levelWords s) post 0 (suc (s .last)) length-part i i (zero-add i) (omega arith))
 
   module _ (parity : ℕ) (ws : List ℕ) (w : Placed s parity h z ws) where
-    decode-parts : Each 0 (suc (s .last)) (λ i. decodeLevel (levelPart s parity i ws) ≡ z .levelAt i)
+    decode-parts : EachFrom 0 (suc (s .last)) (λ i. decodeLevel (levelPart s parity i ws) ≡ z .levelAt i)
     decode-parts i low high = ap decodeLevel (w .parts i (omega arith)) ∙ decode-encode (s .n) (z .levelAt i)
 
     parts-joined : join (upFrom (λ i. levelPart s parity i ws) 0 (suc (s .last))) ≡ levelsWords s h
     parts-joined = ap join (upFrom-cong _ _ 0 (suc (s .last)) (λ i low high. w .parts i (omega arith))) ∙ sym levelsWords-join
 
     -- decoding gives the half
-    pub decodeHalf-placed : decodeHalf s parity ws ≡ h
+    decodeHalf-placed : decodeHalf s parity ws ≡ h
     unfolding decodeHalf
     decodeHalf-placed =
         rw (w .total, upFrom-cong (λ i. decodeLevel (levelPart s parity i ws)) (z .levelAt) 0 (suc (s .last)) decode-parts, ← z .levels)
 
-    soundLevel-parts : Each 0 (suc (s .last)) (λ i. soundLevel s i (h .total) (levelPart s parity i ws) ≡ soundContent s i (h .total) (z .levelAt i))
+    soundLevel-parts : EachFrom 0 (suc (s .last)) (λ i. soundLevel s i (h .total) (levelPart s parity i ws) ≡ soundContent s i (h .total) (z .levelAt i))
     soundLevel-parts i low high = ap (soundLevel s i (h .total)) (w .parts i (omega arith)) ∙ soundLevel-encode s i (h .total) (z .levelAt i)
 
     -- the words are sound exactly if the half is
-    pub soundHalf-placed : soundHalf s parity ws ≡ (leb (h .total) (2 ^ s .m) && allFrom (λ i. soundContent s i (h .total) (z .levelAt i)) 0 (suc (s .last)))
+    soundHalf-placed : soundHalf s parity ws ≡ (leb (h .total) (2 ^ s .m) && allFrom (λ i. soundContent s i (h .total) (z .levelAt i)) 0 (suc (s .last)))
     unfolding soundHalf
     soundHalf-placed =
         rw (
@@ -238,7 +238,7 @@ module _ (s : Shape) (ws : List ℕ) where
     soundHalf-level i low = allFrom-elim levelTest 0 (suc (s .last)) (tests .1) i (omega arith) (omega arith)
 
     -- sound words stand for a sound half
-    pub soundHalf-decode : HalfSound s (decodeHalf s parity ws)
+    soundHalf-decode : HalfSound s (decodeHalf s parity ws)
     unfolding decodeHalf
     soundHalf-decode =
         record {

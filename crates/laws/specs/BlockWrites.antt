@@ -22,13 +22,13 @@ levelIndex s parity i = parity * (s .last + 1) + i
 
 module _ (s : Shape) where
   -- two levels do not overlap
-  pub levelStart-apart : (parity i other j : ℕ) → levelIndex s parity i ≢ levelIndex s other j
+  levelStart-apart : (parity i other j : ℕ) → levelIndex s parity i ≢ levelIndex s other j
       → (levelStart s parity i + levelWords s ≤ levelStart s other j) ⊎ (levelStart s other j + levelWords s ≤ levelStart s parity i)
   unfolding levelStart
   levelStart-apart parity i other j = places-apart 2 (levelWords s) (levelIndex s parity i) (levelIndex s other j)
 
   -- the totals stand before every level
-  pub totals-before : (parity i : ℕ) → 2 ≤ levelStart s parity i
+  totals-before : (parity i : ℕ) → 2 ≤ levelStart s parity i
   unfolding levelStart
   totals-before parity i = omega arith
 

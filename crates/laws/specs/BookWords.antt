@@ -18,19 +18,19 @@ use Rattle.shape.specs.Layout.{headLen, blockWords, blockStart, bookWords}
 use Rattle.model.specs.Block.{upFrom}
 use Rattle.model.specs.Words.{blockPart, shapeOf, clockOf, join, encodeHead, withBlock}
 use Rattle.model.specs.Sound.{maxClock, soundHead}
-use Rattle.laws.specs.Cases.{and-true}
-use Rattle.laws.specs.Parts.{Each, length-join, take-drop-join, withPart-join, join-consecutive, take-upFrom, withPart-same, length-withPart, take-drop-withPart, take-withPart, getD-withPart-below, getD-withPart-above, part-withPart, place-next, places-apart}
+use Rattle.laws.specs.Cond.{and-true}
+use Rattle.laws.specs.Parts.{EachFrom, length-join, take-drop-join, withPart-join, join-consecutive, take-upFrom, length-withPart, getD-withPart-below, getD-withPart-above, part-withPart, place-next, places-apart}
 
 -- ---- where the blocks start
 
 module _ (s : Shape) where
   -- a block ends where the next one starts, or before a later one
-  pub blockStart-next : (i j : ℕ) → i < j → blockStart s i + blockWords s ≤ blockStart s j
+  blockStart-next : (i j : ℕ) → i < j → blockStart s i + blockWords s ≤ blockStart s j
   unfolding blockStart
   blockStart-next = place-next headLen (blockWords s)
 
   -- two blocks do not overlap
-  pub blockStart-apart : (i j : ℕ) → i ≢ j → (blockStart s i + blockWords s ≤ blockStart s j) ⊎ (blockStart s j + blockWords s ≤ blockStart s i)
+  blockStart-apart : (i j : ℕ) → i ≢ j → (blockStart s i + blockWords s ≤ blockStart s j) ⊎ (blockStart s j + blockWords s ≤ blockStart s i)
   unfolding blockStart
   blockStart-apart = places-apart headLen (blockWords s)
 
@@ -50,7 +50,7 @@ module _ (s : Shape) where
   head-before grade = omega arith
 
   -- words of a book's length are their first eight and their blocks
-  pub blocks-joined : (ws : List ℕ) → length ws ≡ bookWords s → take headLen ws ++ join (upFrom (λ j. blockPart s j ws) 0 (s .g)) ≡ ws
+  blocks-joined : (ws : List ℕ) → length ws ≡ bookWords s → take headLen ws ++ join (upFrom (λ j. blockPart s j ws) 0 (s .g)) ≡ ws
   unfolding bookWords blockStart
   blocks-joined ws size =
       let start : headLen + 0 * blockWords s ≡ headLen = omega arith in
@@ -63,16 +63,8 @@ module _ (s : Shape) where
 abbrev pub bookOf : Shape → ℕ → (ℕ → List ℕ) → List ℕ
 bookOf s clock f = encodeHead s clock ++ join (upFrom f 0 (s .g))
 
--- the head names its shape
-pub shapeOf-encode : (k n m g clock : ℕ) (rest : List ℕ) → shapeOf (encodeHead (shaped k n m g) clock ++ rest) ≡ shaped k n m g
-shapeOf-encode k n m g clock rest = refl
-
--- the head names its clock
-pub clockOf-encode : (s : Shape) (clock : ℕ) (rest : List ℕ) → clockOf (encodeHead s clock ++ rest) ≡ clock
-clockOf-encode s clock rest = refl
-
 module _ (s : Shape) (clock : ℕ) (f : ℕ → List ℕ) (sized : (j : ℕ) → j < s .g → length (f j) ≡ blockWords s) where
-  blocks-sized : Each 0 (s .g) (λ j. length (f j) ≡ blockWords s)
+  blocks-sized : EachFrom 0 (s .g) (λ j. length (f j) ≡ blockWords s)
   blocks-sized j low high = sized j (omega arith)
 
   -- a book has the length of the layout
@@ -133,7 +125,7 @@ module _ (ws : List ℕ) (sound : soundHead ws ≡ true) where
   soundHead-clock = leb-true (clockOf ws) maxClock (rest-tests .0)
 
   -- the first eight words are the head of their shape and clock
-  pub take-head : headLen ≤ length ws → take headLen ws ≡ encodeHead (shapeOf ws) (clockOf ws)
+  take-head : headLen ≤ length ws → take headLen ws ≡ encodeHead (shapeOf ws) (clockOf ws)
   take-head size =
       let five : (eqb (getD ws 5 0) 0 ≡ true) × ((eqb (getD ws 6 0) 0 && eqb (getD ws 7 0) 0) ≡ true) = both (rest-tests .1) in
       let six : (eqb (getD ws 6 0) 0 ≡ true) × (eqb (getD ws 7 0) 0 ≡ true) = both (five .1) in
@@ -161,18 +153,10 @@ module _ (s : Shape) (grade : ℕ) (h : grade < s .g) (ws : List ℕ) (size : le
     pub length-withBlock : length (withBlock s grade block ws) ≡ length ws
     length-withBlock = length-withPart (blockStart s grade) (blockWords s) block ws fits block-size
 
-    -- the block is the new one
-    pub blockPart-withBlock : blockPart s grade (withBlock s grade block ws) ≡ block
-    blockPart-withBlock = take-drop-withPart (blockStart s grade) (blockWords s) block ws fits block-size
-
     -- no other block changes
     pub blockPart-withBlock-other : (other : ℕ) → other ≢ grade → blockPart s other (withBlock s grade block ws) ≡ blockPart s other ws
     blockPart-withBlock-other other apart =
         part-withPart (blockStart s grade) (blockWords s) block ws fits block-size (blockStart s other) (blockWords s) (blockStart-apart s other grade apart)
-
-    -- the head does not change
-    pub head-withBlock : take headLen (withBlock s grade block ws) ≡ take headLen ws
-    head-withBlock = take-withPart (blockStart s grade) (blockWords s) block ws fits block-size headLen (head-before s grade)
 
     -- no word below or above changes
     pub getD-withBlock-below : (i d : ℕ) → i < blockStart s grade → getD (withBlock s grade block ws) i d ≡ getD ws i d
@@ -180,7 +164,3 @@ module _ (s : Shape) (grade : ℕ) (h : grade < s .g) (ws : List ℕ) (size : le
 
     pub getD-withBlock-above : (i d : ℕ) → blockStart s grade + blockWords s ≤ i → getD (withBlock s grade block ws) i d ≡ getD ws i d
     getD-withBlock-above = getD-withPart-above (blockStart s grade) (blockWords s) block ws fits block-size
-
--- putting a block back changes nothing
-pub withBlock-same : (s : Shape) (grade : ℕ) (ws : List ℕ) → withBlock s grade (blockPart s grade ws) ws ≡ ws
-withBlock-same s grade ws = withPart-same (blockStart s grade) (blockWords s) ws

@@ -58,7 +58,7 @@ pub slot-at : (u v : List ℕ) (b : Bucket) (j : ℕ) → length u ≡ slotStart
 slot-at u v b j h = rw (← h) (simp (getD-append-seam, getD-append-add))
 
 -- reading slots whose words are at their places
-pub slots-flat : (bs : List Bucket) (u v : List ℕ) (j : ℕ) → length u ≡ slotStart j → slots (u ++ (flat bs ++ v)) j (length bs) ≡ bs
+slots-flat : (bs : List Bucket) (u v : List ℕ) (j : ℕ) → length u ≡ slotStart j → slots (u ++ (flat bs ++ v)) j (length bs) ≡ bs
 slots-flat [] u v j h = refl
 slots-flat (b ∷ bs) u v j h =
     let e : slots ((u ++ slotWords b) ++ (flat bs ++ v)) (j + 1) (length bs) ≡ bs =
@@ -120,7 +120,7 @@ flat-slots ws j (suc c) h =
     rw (e, drop-slot ws j (omega arith)) (ap (λ (z : List ℕ). slotWords (slot ws j) ++ z) (flat-slots ws (j + 1) c (omega arith)))
 
 -- encoding gives words back if their count is at most n and their unused slots are zero
-pub encode-decode : (n : ℕ) (ws : List ℕ) → length ws ≡ slotStart n → getD ws 0 0 ≤ n → zeros (drop (slotStart (getD ws 0 0)) ws) ≡ true
+encode-decode : (n : ℕ) (ws : List ℕ) → length ws ≡ slotStart n → getD ws 0 0 ≤ n → zeros (drop (slotStart (getD ws 0 0)) ws) ≡ true
     → encodeLevel n (decodeLevel ws) ≡ ws
 unfolding encodeLevel decodeLevel
 encode-decode n ws size few unused =

@@ -1,8 +1,8 @@
 -- What stores and moves of words do to the words of a level: replacing a field, putting a bucket in, taking the lowest bucket out. Rests on
 -- the codec of a level and on moved words.
 use mathlib.Core.Path.{_≡_, refl, sym, ap, _∙_}
-use mathlib.Core.List.{List, [], _∷_, _++_, append-assoc, append-nil}
-use Prim.Native.Nat.{ℕ, suc, _+_, _-_, _*_, _≤_, _<_}
+use mathlib.Core.List.{List, [], _∷_, _++_, append-assoc}
+use Prim.Native.Nat.{ℕ, suc, _+_, _-_, _*_, _≤_}
 use native.Mathlib.Nat.{add-zero, zero-add, suc-add}
 use native.Mathlib.Omega.{arith}
 use lib.ListN.{length, getD, drop, set, replicate, length-append}
@@ -11,7 +11,7 @@ use Rattle.shape.specs.Layout.{levelHeadLen, slotLen, slotStart}
 use Rattle.model.specs.Level.{Bucket, Level, bucketOf, levelOf}
 use Rattle.model.specs.Words.{slot, encodeLevel, slotWords}
 use Rattle.laws.specs.LevelWords.{flat, blank, length-flat, flat-append, slot-at}
-use Rattle.laws.specs.Moves.{raise, lower, putSlot, putSlot-raise, putSlot-lower}
+use Rattle.laws.specs.SlotWrites.{raise, lower, putSlot, putSlot-raise, putSlot-lower}
 
 -- a store into the second of two lists
 set-append-add : (u ws : List ℕ) (i v : ℕ) → set (u ++ ws) (length u + i) v ≡ u ++ set ws i v
@@ -19,11 +19,11 @@ set-append-add [] ws i v = rw zero-add
 set-append-add (x ∷ u) ws i v = rw (suc-add (length u) i) (ap (λ (z : List ℕ). x ∷ z) (set-append-add u ws i v))
 
 -- the words of a level before the slot that comes after the buckets `before`
-abbrev pub lead : ℕ → ℕ → List Bucket → List ℕ
+abbrev lead : ℕ → ℕ → List Bucket → List ℕ
 lead count f before = count ∷ f ∷ flat before
 
 -- the words of a level, cut between two lists of buckets
-pub encode-append : (n f : ℕ) (before after : List Bucket)
+encode-append : (n f : ℕ) (before after : List Bucket)
     → encodeLevel n (levelOf f (before ++ after))
     ≡ lead (length before + length after) f before ++ (flat after ++ blank n (length before + length after))
 unfolding encodeLevel
@@ -37,11 +37,6 @@ module _ (n : ℕ) (l : Level) where
   unfolding encodeLevel
   getD-count = refl
 
-  -- reading F
-  pub getD-first : getD (encodeLevel n l) 1 0 ≡ l .first
-  unfolding encodeLevel
-  getD-first = refl
-
   -- writing F
   pub set-first : (v : ℕ) → set (encodeLevel n l) 1 v ≡ encodeLevel n (levelOf v (l .buckets))
   unfolding encodeLevel
@@ -51,7 +46,7 @@ module _ (n : ℕ) (l : Level) where
 
 module _ (n f : ℕ) (before after : List Bucket) where
   -- the words of a level with bucket b between two lists
-  abbrev pub wordsWith : Bucket → List ℕ
+  abbrev wordsWith : Bucket → List ℕ
   wordsWith b = encodeLevel n (levelOf f (before ++ (b ∷ after)))
 
   module _ (j : ℕ) (place : length before ≡ j) where
@@ -71,10 +66,10 @@ module _ (n f : ℕ) (before after : List Bucket) where
         rw (encode-append n f before (b ∷ after), e, set-append-add u (slotWords b ++ rest) i v, stored rest) (sym (encode-append n f before (c ∷ after)))
 
     -- writing one field of slot j
-    pub set-offset : (b : Bucket) (v : ℕ) → set (wordsWith b) (slotStart j) v ≡ wordsWith (bucketOf v (b .width) (b .weight))
+    set-offset : (b : Bucket) (v : ℕ) → set (wordsWith b) (slotStart j) v ≡ wordsWith (bucketOf v (b .width) (b .weight))
     set-offset b v = rw add-zero at (set-slot 0 v b (bucketOf v (b .width) (b .weight)) (λ rest. refl))
 
-    pub set-width : (b : Bucket) (v : ℕ) → set (wordsWith b) (slotStart j + 1) v ≡ wordsWith (bucketOf (b .offset) v (b .weight))
+    set-width : (b : Bucket) (v : ℕ) → set (wordsWith b) (slotStart j + 1) v ≡ wordsWith (bucketOf (b .offset) v (b .weight))
     set-width b v = set-slot 1 v b (bucketOf (b .offset) v (b .weight)) (λ rest. refl)
 
     pub set-weight : (b : Bucket) (v : ℕ) → set (wordsWith b) (slotStart j + 2) v ≡ wordsWith (bucketOf (b .offset) (b .width) v)
@@ -122,18 +117,3 @@ module _ (n f : ℕ) (before after : List Bucket) where
         let count-is : length before + suc (length after) ≡ count = omega arith in
         rw (encode-append n f (lowest ∷ before) after, putSlot-lower (u ++ rest) levelHeadLen (slotLen * j) b fits, drop-at u rest (slotStart j + slotLen) end, take-at (flat before) rest (slotLen * j) size)
         (sym (rw count-is at (encode-append n f before (b ∷ after))))
-
-module _ (n f : ℕ) (bs : List Bucket) (j : ℕ) (place : length bs ≡ j) (room : j < n) where
-  -- lowering the count drops a last bucket of zeros
-  clear-encode : set (encodeLevel n (levelOf f (bs ++ (bucketOf 0 0 0 ∷ [])))) 0 j ≡ encodeLevel n (levelOf f bs)
-  unfolding encodeLevel
-  clear-encode =
-      let unused : slotLen * (n - length bs) ≡ suc (suc (suc (slotLen * (n - (length bs + 1))))) = omega arith in
-      ap (λ (z : List ℕ). set z 0 j) (encode-append n f bs (bucketOf 0 0 0 ∷ [])) ∙ rw (unused, place)
-
-  -- taking the lowest bucket out: every other slot moves down by one, the last is cleared, and the count falls
-  pub evict-encode : (lowest : Bucket)
-      → set (putSlot (lower (encodeLevel n (levelOf f (lowest ∷ bs))) levelHeadLen (slotLen * j)) (slotStart j) (bucketOf 0 0 0)) 0 j ≡ encodeLevel n (levelOf f bs)
-  evict-encode lowest =
-      let shifted = shift-encode n f bs [] j place lowest (bucketOf 0 0 0) in
-      rw (rw append-nil at shifted) clear-encode

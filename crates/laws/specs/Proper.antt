@@ -15,7 +15,7 @@ pub record Proper (s : Shape) : Type 0 where
   pub last : s .last ≡ s .m
 
 -- the words of a level that can take v decilitres at offset x, in a half of some total
-pub record Open (s : Shape) (i x v : ℕ) (ws : List ℕ) : Type 0 where
+pub record Insertable (s : Shape) (i x v : ℕ) (ws : List ℕ) : Type 0 where
   pub total : ℕ
   pub proper : Proper s
   pub index : i ≤ s .last

@@ -20,7 +20,7 @@ use Rattle.model.specs.Words.{blockPart, decodeBlock}
 use Rattle.model.specs.Sound.{allFrom, maxClock, soundHead, soundBlock}
 use Rattle.model.specs.Calls.{View, firstOf, opened, refusals, Outcome, outcomeOf, settle, bookView, accept, perform}
 use Rattle.model.specs.Ledger.{Ledger, ledgerView, note, enter}
-use Rattle.laws.specs.Cases.{by-eq}
+use Rattle.laws.specs.Cond.{by-eq}
 
 -- no refusal has the number 0
 pub numberOf-pos : (r : Refusal) → numberOf r ≡ 0 → ⊥
@@ -54,7 +54,7 @@ past true x h = refl
 past false x h = h refl
 
 -- a number other than the first one's comes from further down
-pub further : (a : Bool) (x : ℕ) {y z : ℕ} → (x ≡ z → ⊥) → cond a x y ≡ z → (a ≡ false) × (y ≡ z)
+further : (a : Bool) (x : ℕ) {y z : ℕ} → (x ≡ z → ⊥) → cond a x y ≡ z → (a ≡ false) × (y ≡ z)
 further true x other h = absurd (other h)
 further false x other h = (refl, h)
 
@@ -63,7 +63,7 @@ module _ {A : Type 0} (rs : List (Bool × ℕ)) (before : A) (done : Outcome A) 
   settle-accepted h = rw (eq-eqb (firstOf rs) 0 h)
 
   -- the number of the reply is that of the first refusal that holds
-  pub settle-number : done .reply .number ≡ 0 → settle rs before done .reply .number ≡ firstOf rs
+  settle-number : done .reply .number ≡ 0 → settle rs before done .reply .number ≡ firstOf rs
   settle-number h =
       by-eq (firstOf rs) 0 (λ (o : Outcome A). o .reply .number ≡ firstOf rs) (λ none. h ∙ sym none) (λ some. refl)
 

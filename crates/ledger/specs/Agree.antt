@@ -35,7 +35,7 @@ module _ (l : Ledger) (good : Good l) where
   abbrev ws : List ℕ
   ws = wordsOf l
 
-  pub bookView-grown : bookView ws ≡ viewOf s clock ws
+  bookView-grown : bookView ws ≡ viewOf s clock ws
   unfolding bookView
   bookView-grown = ap₂ (λ (z : Shape) (c : ℕ). viewOf z c ws) (words-shape l good) (words-clock l good)
 

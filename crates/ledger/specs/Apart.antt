@@ -16,10 +16,10 @@ use Rattle.model.specs.Block.{Block, opening, answer, deliver}
 use Rattle.model.specs.Words.{shapeOf, clockOf, blockPart, decodeBlock, encodeBlock, withBlock}
 use Rattle.model.specs.Sound.{soundHead, soundBlock}
 use Rattle.model.specs.Calls.{View, blockAt, firstOf, opened, refusals, bookView, outcomeOf, accept, perform, delivered}
-use Rattle.laws.specs.Cases.{eq-or-ne}
+use Rattle.laws.specs.Cond.{eq-or-ne}
 use Rattle.laws.specs.Proper.{Proper}
 use Rattle.laws.specs.BlockWords.{soundBlock-decode}
-use Rattle.laws.specs.BlockKept.{deliver-both, both-size}
+use Rattle.laws.specs.BlockSound.{deliver-both, both-size}
 use Rattle.laws.specs.BookWords.{soundHead-limits, head-before, length-withBlock, blockPart-withBlock-other, getD-withBlock-below, getD-withBlock-above}
 use Rattle.laws.specs.Refusals.{AcceptedDelivery, accepted-delivery, settle-accepted, settle-refused}
 

@@ -12,7 +12,7 @@ use Rattle.shape.specs.declared.Shape.{Shape}
 use Rattle.model.specs.Block.{Half, Block, interval, offsetOf, halfOf, emptyHalf, empties, advance, deliver, deliverHalf}
 use Rattle.model.specs.Ledger.{Entry, ofInterval}
 use Rattle.model.specs.Claim.{Each}
-use Rattle.laws.specs.Cases.{and-false}
+use Rattle.laws.specs.Cond.{and-false}
 use Rattle.ledger.specs.Time.{interval-mono}
 use Rattle.ledger.specs.Grown.{halfFor, halfFor-none, halfFor-more, halfFor-other}
 use Rattle.ledger.specs.Served.{served, served-near, served-parity, served-clock}
@@ -25,7 +25,7 @@ unfoldable pub blockFor : Shape → ℕ → List Entry → (Entry → Bool) → 
 blockFor s clock es p = record { even = halfAt s clock es p 0; odd = halfAt s clock es p 1 }
 
 -- a number is even or odd
-pub by-parity : (j : ℕ) (P : ℕ → Type 0) → P 0 → P 1 → P (j % 2)
+by-parity : (j : ℕ) (P : ℕ → Type 0) → P 0 → P 1 → P (j % 2)
 by-parity j P even odd = go (j % 2) (omega arith)
   where
     go : (r : ℕ) → r < 2 → P r
@@ -47,17 +47,17 @@ halfOf-served s clock es p j low high =
 
 module _ (s : Shape) (p : Entry → Bool) (j : ℕ) where
   -- an entry of this interval that satisfies the test; one of another interval; one that does not satisfy it
-  pub ofInterval-own : (e : Entry) → p e ≡ true → interval s (e .stamp) ≡ j → ofInterval s p j e ≡ true
+  ofInterval-own : (e : Entry) → p e ≡ true → interval s (e .stamp) ≡ j → ofInterval s p j e ≡ true
   ofInterval-own e g i = rw (g, eq-eqb (interval s (e .stamp)) j i)
 
-  pub ofInterval-elsewhere : (e : Entry) → (interval s (e .stamp) ≡ j → ⊥) → ofInterval s p j e ≡ false
+  ofInterval-elsewhere : (e : Entry) → (interval s (e .stamp) ≡ j → ⊥) → ofInterval s p j e ≡ false
   ofInterval-elsewhere e i = and-false (p e) (ne-eqb (interval s (e .stamp)) j i)
 
-  pub ofInterval-other : (e : Entry) → p e ≡ false → ofInterval s p j e ≡ false
+  ofInterval-other : (e : Entry) → p e ≡ false → ofInterval s p j e ≡ false
   ofInterval-other e g = rw g
 
   -- no entry lies in an interval that the clock has not entered
-  pub ofInterval-ahead : (clock : ℕ) (es : List Entry) → Each (λ e. e .stamp ≤ clock) es → interval s clock < j
+  ofInterval-ahead : (clock : ℕ) (es : List Entry) → Each (λ e. e .stamp ≤ clock) es → interval s clock < j
       → Each (λ e. ofInterval s p j e ≡ false) es
   ofInterval-ahead clock [] past h = tt
   ofInterval-ahead clock (e ∷ es) past h =

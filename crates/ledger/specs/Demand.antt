@@ -18,7 +18,7 @@ use Rattle.model.specs.Words.{shapeOf, clockOf}
 use Rattle.model.specs.Calls.{View, blockAt, firstOf, refusals, bookView, accept, perform, clocked, delivered}
 use Rattle.model.specs.Ledger.{Entry, Ledger, ledgerOf, volumeOf, ofGrade, ofWindow, ledgerView, note, enter}
 use Rattle.model.specs.Claim.{Turn, run, ByCall, Admits, Bound, Span, Outside, Kept, Claim}
-use Rattle.laws.specs.Cases.{eq-or-ne}
+use Rattle.laws.specs.Cond.{eq-or-ne}
 use Rattle.laws.specs.Refusals.{accepted-make, accepted-clock, accepted-delivery, accepted-query, late-delivery, settle-accepted, settle-refused, perform-number, enter-number}
 use Rattle.ledger.specs.Time.{late-outside}
 use Rattle.ledger.specs.Book.{blockFor}

@@ -5,7 +5,7 @@ use mathlib.Core.List.{List, [], _∷_}
 use Prim.Native.Nat.{ℕ, _+_, _*_, _≤_}
 use native.Mathlib.Omega.{arith}
 use lib.ListN.{length, replicate}
-use Rattle.shape.specs.Limits.{Reply, within, shaped}
+use Rattle.shape.specs.Limits.{within, shaped}
 use Rattle.shape.specs.Layout.{bookWords, blockWords, blockStart, levelStart}
 use Rattle.model.specs.declared.Call.{Call}
 use Rattle.model.specs.declared.Call.the-variants.{Make, Clock, Delivery, Query}

@@ -13,7 +13,7 @@ use Rattle.model.specs.Block.{Half, upFrom, offsetOf, emptyHalf, deliverHalf}
 use Rattle.model.specs.Ledger.{Entry, volumeOf}
 use Rattle.model.specs.Claim.{Each}
 use Rattle.ledger.specs.Time.{offset-lt}
-use Rattle.laws.specs.BlockKept.{insertAll-upFrom}
+use Rattle.laws.specs.BlockSound.{insertAll-upFrom}
 use Rattle.theory.specs.Fed.{Event, fed, counted, Inside}
 
 -- the entries that satisfy a test, as events of an interval
@@ -41,16 +41,9 @@ halfFor s p es = halfFed s (volumeOf p es) (events s p es)
 
 -- two tests that agree on every entry
 module _ (s : Shape) (p q : Entry → Bool) where
-  pub events-cong : (es : List Entry) → Each (λ e. p e ≡ q e) es → events s p es ≡ events s q es
-  events-cong [] h = refl
-  events-cong (e ∷ es) h = rw (h .0, events-cong es (h .1))
-
   pub volumeOf-cong : (es : List Entry) → Each (λ e. p e ≡ q e) es → volumeOf p es ≡ volumeOf q es
   volumeOf-cong [] h = refl
   volumeOf-cong (e ∷ es) h = rw (h .0, volumeOf-cong es (h .1))
-
-  pub halfFor-cong : (es : List Entry) → Each (λ e. p e ≡ q e) es → halfFor s p es ≡ halfFor s q es
-  halfFor-cong es h = rw (events-cong es h, volumeOf-cong es h)
 
 -- no entry satisfies the test
 module _ (s : Shape) (p : Entry → Bool) where

@@ -18,7 +18,7 @@ use Rattle.model.specs.Sound.{maxClock}
 use Rattle.model.specs.Calls.{blockAt, made, clocked, delivered}
 use Rattle.model.specs.Ledger.{Entry, Ledger, ledgerOf, volumeOf, ofGrade, ofInterval}
 use Rattle.model.specs.Claim.{Each}
-use Rattle.laws.specs.Cases.{eq-or-ne}
+use Rattle.laws.specs.Cond.{eq-or-ne}
 use Rattle.laws.specs.Parts.{upFrom-cong, replicate-upFrom}
 use Rattle.laws.specs.BookWords.{bookOf, withBlock-bookOf}
 use Rattle.ledger.specs.Time.{interval-mono, interval-near}

@@ -8,18 +8,18 @@ use lib.Dec.{eqb}
 use borrow.Author.Tests.{eq-eqb, ne-eqb}
 use Rattle.model.specs.Block.{empties}
 use Rattle.model.specs.BlockLaws.{empties-same, empties-next, empties-other, empties-skipped}
-use Rattle.laws.specs.Cases.{lt-or-ge, eq-or-ne, by-eq}
+use Rattle.laws.specs.Cond.{lt-or-ge, eq-or-ne, by-eq}
 
 -- the interval that a half serves while the clock is in interval `now`: that one or the one before. In interval 0 the odd half has served
 -- none; interval 1, which has no entry yet, stands in for it
 unfoldable pub served : ℕ → ℕ → ℕ
 served now parity = cond (eqb (now % 2) parity) now (cond (eqb now 0) 1 (now - 1))
 
-pub served-own : (now parity : ℕ) → now % 2 ≡ parity → served now parity ≡ now
+served-own : (now parity : ℕ) → now % 2 ≡ parity → served now parity ≡ now
 unfolding served
 served-own now parity h = rw (eq-eqb (now % 2) parity h)
 
-pub served-before : (now parity : ℕ) → (now % 2 ≡ parity → ⊥) → 0 < now → served now parity ≡ now - 1
+served-before : (now parity : ℕ) → (now % 2 ≡ parity → ⊥) → 0 < now → served now parity ≡ now - 1
 unfolding served
 served-before now parity h pos = rw (ne-eqb (now % 2) parity h, ne-eqb now 0 (λ e. omega arith))
 

@@ -15,7 +15,7 @@ use Rattle.model.specs.Words.{shapeOf, clockOf, encodeBlock, decodeBlock, block
 use Rattle.model.specs.Sound.{allFrom, soundBlock, soundHead, maxClock}
 use Rattle.model.specs.Ledger.{Entry, Ledger, volumeOf, ofGrade, ofInterval}
 use Rattle.model.specs.Claim.{Each}
-use Rattle.laws.specs.SoundFacts.{sound-tests}
+use Rattle.laws.specs.SoundLevel.{sound-tests}
 use Rattle.laws.specs.Parts.{allFrom-intro}
 use Rattle.laws.specs.BlockWords.{HalfSound, sound-sized, length-encodeBlock, decode-encodeBlock, soundBlock-encode}
 use Rattle.laws.specs.BookWords.{bookOf, length-bookOf, blockPart-bookOf, soundHead-encode}
@@ -49,7 +49,7 @@ module _ (l : Ledger) (good : Good l) where
   abbrev es : List Entry
   es = l .entries
 
-  pub half-sound : (grade parity : ℕ) → HalfSound s (halfAt s clock es (ofGrade grade) parity)
+  half-sound : (grade parity : ℕ) → HalfSound s (halfAt s clock es (ofGrade grade) parity)
   unfolding halfFed
   half-sound grade parity =
       let p = ofInterval s (ofGrade grade) (served (interval s clock) parity) in

@@ -10,7 +10,7 @@ use lib.Pow
 use borrow.Author.Tests.{lt-leb, ltb-true}
 use Rattle.shape.specs.declared.Shape.{Shape}
 use Rattle.model.specs.Block.{interval, offsetOf, opening, covers, late}
-use Rattle.laws.specs.Cases.{lt-or-ge}
+use Rattle.laws.specs.Cond.{lt-or-ge}
 
 module _ (s : Shape) where
   -- a tick is its interval's start and its offset

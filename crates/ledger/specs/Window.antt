@@ -13,7 +13,7 @@ use Rattle.shape.specs.declared.Shape.{Shape}
 use Rattle.model.specs.Block.{interval, offsetOf, opening, answer, sumFrom, serving}
 use Rattle.model.specs.Ledger.{Entry, Ledger, volumeOf, ofInterval, ofWindow}
 use Rattle.model.specs.Claim.{Each, Admits}
-use Rattle.laws.specs.Cases.{lt-or-ge, eq-or-ne}
+use Rattle.laws.specs.Cond.{lt-or-ge, eq-or-ne}
 use Rattle.theory.specs.Fed.{counted}
 use Rattle.theory.specs.Relative.{relative, admits-more}
 use Rattle.ledger.specs.Time.{offset-lt, interval-mono, interval-lt, interval-near, offset-le, tick-le}
@@ -31,20 +31,20 @@ leb-same x y u v f g =
 
 module _ (s : Shape) (start stamp : ℕ) where
   -- in the interval in which the window opens, a stamp is covered by its offset
-  pub opens-within : interval s stamp ≡ interval s start → leb start stamp ≡ leb (offsetOf s start) (offsetOf s stamp)
+  opens-within : interval s stamp ≡ interval s start → leb start stamp ≡ leb (offsetOf s start) (offsetOf s stamp)
   opens-within e = leb-same start stamp (offsetOf s start) (offsetOf s stamp) (offset-le s start stamp (sym e)) (tick-le s start stamp (sym e))
 
   -- a stamp of a later interval is covered, and one of an earlier interval is not
-  pub opens-before : interval s start < interval s stamp → leb start stamp ≡ true
+  opens-before : interval s start < interval s stamp → leb start stamp ≡ true
   opens-before h = le-leb start stamp (omega (arith, interval-lt s start stamp h))
 
-  pub opens-after : interval s stamp < interval s start → leb start stamp ≡ false
+  opens-after : interval s stamp < interval s start → leb start stamp ≡ false
   opens-after h = lt-leb start stamp (interval-lt s stamp start h)
 
 -- ---- the ledger's sum by interval and offset
 
 -- an entry that satisfies a test, in interval j and from offset a on
-abbrev pub fromOffset : Shape → (Entry → Bool) → ℕ → ℕ → Entry → Bool
+abbrev fromOffset : Shape → (Entry → Bool) → ℕ → ℕ → Entry → Bool
 fromOffset s p j a e = ofInterval s p j e && leb a (offsetOf s (e .stamp))
 
 -- if each entry counts for p what it counts for q and r together, so do the sums
@@ -85,7 +85,7 @@ module _ (s : Shape) (clock : ℕ) (p : Entry → Bool) (window : ℕ) where
         gone true t = refl
         gone false t = refl
 
-    pub window-own : (es : List Entry) → Each (λ e. e .stamp ≤ clock) es
+    window-own : (es : List Entry) → Each (λ e. e .stamp ≤ clock) es
         → volumeOf (ofWindow clock p window) es ≡ volumeOf (fromOffset s p current a) es
     window-own es past = volumeOf-cong s (ofWindow clock p window) (fromOffset s p current a) es (each es past)
       where
@@ -135,7 +135,7 @@ module _ (s : Shape) (clock : ℕ) (p : Entry → Bool) (window : ℕ) where
         outside true t = omega arith
         outside false t = omega arith
 
-    pub window-before : (es : List Entry) → Each (λ e. e .stamp ≤ clock) es
+    window-before : (es : List Entry) → Each (λ e. e .stamp ≤ clock) es
         → volumeOf (ofWindow clock p window) es ≡ volumeOf (fromOffset s p (interval s start) a) es + volumeOf (ofInterval s p current) es
     window-before es past =
         volumeOf-sum (ofWindow clock p window) (fromOffset s p (interval s start) a) (ofInterval s p current) es (each es past)
@@ -162,7 +162,7 @@ module _ (l : Ledger) (good : Good l) where
 
   -- if a relation survives adding the same volume on both sides and holds of the half in which the window opens, it holds of the window's
   -- sums
-  pub sum-relates : (R : ℕ → ℕ → Type 0) → ((x y more : ℕ) → R x y → R (x + more) (y + more)) → (p : Entry → Bool) (window : ℕ) → window ≤ 2 ^ s .k
+  sum-relates : (R : ℕ → ℕ → Type 0) → ((x y more : ℕ) → R x y → R (x + more) (y + more)) → (p : Entry → Bool) (window : ℕ) → window ≤ 2 ^ s .k
       → HalfRelates R p (interval s (opening clock window)) (offsetOf s (opening clock window))
       → R (answer s clock (opening clock window) (blockFor s clock es p)) (volumeOf (ofWindow clock p window) es)
   unfolding answer halfFed

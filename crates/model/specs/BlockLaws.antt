@@ -1,23 +1,10 @@
 -- Which halves the clock empties, by how many intervals it goes on. Assumes nothing.
-use mathlib.Core.Bool.{true, false, cond}
-use mathlib.Core.Path.{_≡_, refl}
-use Prim.Native.Nat.{ℕ, zero, suc, _+_, _%_, _<_}
+use mathlib.Core.Bool.{true, false}
+use mathlib.Core.Path.{_≡_}
+use Prim.Native.Nat.{ℕ, _+_, _%_, _<_}
 use native.Mathlib.Omega.{arith}
 use borrow.Author.Tests.{eq-eqb, ne-eqb}
-use Rattle.shape.specs.declared.Shape.{Shape}
-use Rattle.model.specs.Block.{Block, interval, halfOf, emptyHalf, empties, advance}
-
--- the half that serves interval j is emptied or kept
-pub halfOf-advance : (s : Shape) (old new j : ℕ) (b : Block)
-    → halfOf j (advance s old new b) ≡ cond (empties (interval s old) (interval s new) j) (emptyHalf s) (halfOf j b)
-unfolding advance
-halfOf-advance s old new j b = go (j % 2) refl (omega arith)
-  where
-    go : (r : ℕ) → j % 2 ≡ r → r < 2
-        → halfOf j (advance s old new b) ≡ cond (empties (interval s old) (interval s new) j) (emptyHalf s) (halfOf j b)
-    go zero e h = rw e
-    go (suc zero) e h = rw e
-    go (suc (suc r)) e h = absurd (omega arith)
+use Rattle.model.specs.Block.{empties}
 
 module _ (from to j : ℕ) where
   -- within an interval none is emptied

@@ -15,7 +15,7 @@ ghost use Rattle.words.specs.Slot.{content};
 ghost use Rattle.pass_laws.specs.Pass.{unseen, below, spread, seeSingle, seeBucket, seeOne, leastOf, seenLevel, weightSeen, soundSeen, Judged};
 
 // Before the first bucket.
-fn start(first: u32) -> Seen
+fn unseen(first: u32) -> Seen
     ensures { λ r. ⌜ r ≡ unseen first ⌝ }
 {
     Seen {
@@ -30,14 +30,14 @@ fn start(first: u32) -> Seen
 }
 
 // 1 if x is less than y, else 0: a number, so that no branch is needed.
-fn under(x: u32, y: u32) -> u32
+fn below(x: u32, y: u32) -> u32
     ensures { λ r. ⌜ (r ≡ below x y) × (r ≤ 1) ⌝ }
 {
     if x < y { 1 } else { 0 }
 }
 
 // The weight of a bucket wider than 1, else 0.
-fn shared(b: Slot) -> u32
+fn spread(b: Slot) -> u32
     ensures { λ r. ⌜ r ≡ spread (content b) ⌝ }
 {
     if b.width == 1 { 0 } else { b.weight }
@@ -53,7 +53,7 @@ fn see_single(t: Seen, b: Slot) -> Seen
         faults: t.faults | (b.width ^ 1),
         reach: t.reach | b.offset,
         heavy: t.heavy,
-        short: t.short + (under(b.offset, t.end) + under(b.weight, 1)),
+        short: t.short + (below(b.offset, t.end) + below(b.weight, 1)),
         low: std::num::wrapping_add_u32(t.low, b.weight),
         high: t.high + b.weight / 65536,
     }
@@ -70,8 +70,8 @@ fn see_bucket(t: Seen, b: Slot, least: u32) -> Seen
         end: std::num::wrapping_add_u32(b.offset, b.width),
         faults: t.faults | (t.end ^ b.offset) | (b.width & less) | (b.offset & less),
         reach: t.reach | less,
-        heavy: t.heavy | shared(b),
-        short: t.short + under(b.weight, least),
+        heavy: t.heavy | spread(b),
+        short: t.short + below(b.weight, least),
         low: std::num::wrapping_add_u32(t.low, b.weight),
         high: t.high + b.weight / 65536,
     }
@@ -89,7 +89,7 @@ fn see_one(t: Seen, b: Slot, i: u8, least: u32) -> Seen
 }
 
 // The least weight that a bucket of level i from 1 on must have.
-pub fn least(count: usize, i: u8) -> u32
+pub fn least_of(count: usize, i: u8) -> u32
     requires { ⌜ i ≤ 31 ⌝ }
     ensures { λ r. ⌜ r ≡ leastOf count i ⌝ }
 {
@@ -97,12 +97,12 @@ pub fn least(count: usize, i: u8) -> u32
 }
 
 // One pass over the buckets of level i.
-fn see(level: &[u32], count: usize, i: u8) -> Seen
+fn seen_level(level: &[u32], count: usize, i: u8) -> Seen
     requires { ⌜ (2 + 3 * count ≤ length (now level)) × (count ≤ 1024) × (i ≤ 31) ⌝ }
     ensures { λ r. ⌜ r ≡ seenLevel i (getD (now (level .entry)) 1 0) (slots (now (level .entry)) 0 count) ⌝ }
 {
-    let low = least(count, i);
-    let mut t = start(level[1]);
+    let low = least_of(count, i);
+    let mut t = unseen(level[1]);
     let mut rest = &level[2..];
     let mut at: usize = 0;
     while at < count {
@@ -114,7 +114,7 @@ fn see(level: &[u32], count: usize, i: u8) -> Seen
 }
 
 // The sum of the weights. Their lower 16 bits add up to less than 2 ^ 32, so the remainder is all of it.
-fn weight(t: Seen) -> u64
+fn weight_seen(t: Seen) -> u64
     ensures { λ r. ⌜ r ≡ weightSeen t ⌝ }
 {
     let high = 65536 * long(t.high);
@@ -138,10 +138,10 @@ pub fn judge_seen(level: &[u32], count: usize, k: u8, i: u8) -> Verdict
     requires { ⌜ (2 + 3 * count ≤ length (now level)) × (count ≤ 1024) × (k ≤ 20) × (i ≤ 24) ⌝ }
     ensures { λ r. ⌜ Judged k i (getD (now (level .entry)) 1 0) (slots (now (level .entry)) 0 count) r ⌝ }
 {
-    let t = see(level, count, i);
+    let t = seen_level(level, count, i);
     let sound = sound_seen(t, level[1], k, i);
     Verdict {
-        weight: weight(t),
+        weight: weight_seen(t),
         sound: sound,
     }
 }

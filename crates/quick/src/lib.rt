@@ -1,6 +1,6 @@
 // The check of a level's buckets: the quick pass first, and the exact pass if its tests fail.
 use pass::judge_seen;
-use pass::least;
+use pass::least_of;
 use quick_laws::Quick;
 use turns::quick_buckets;
 use words::both;
@@ -15,7 +15,7 @@ ghost use lib.Dec.{leb};
 ghost use lib.ListN.{length, getD};
 ghost use Rattle.model.specs.Words.{slots};
 ghost use Rattle.model.specs.Sound.{weightOf, soundBuckets};
-ghost use Rattle.quick_laws.specs.Quick.{mostOf, enough, tried, fits};
+ghost use Rattle.quick_laws.specs.Quick.{mostOf, isEnough, isTried, weighs};
 
 // The sum of the weights modulo 2 ^ 32.
 fn weight_of(level: &[u32], count: usize) -> u32
@@ -33,7 +33,7 @@ fn weight_of(level: &[u32], count: usize) -> u32
 }
 
 // How much the weight of a bucket wider than 1 may be above the least one.
-fn most(count: usize, i: u8) -> u32
+fn most_of(count: usize, i: u8) -> u32
     requires { ⌜ i ≤ 30 ⌝ }
     ensures { λ r. ⌜ r ≡ mostOf count i ⌝ }
 {
@@ -48,7 +48,7 @@ fn most(count: usize, i: u8) -> u32
 // less than 2 ^ 32.
 fn is_enough(t: Quick, first: u32, k: u8) -> bool
     requires { ⌜ k ≤ 31 ⌝ }
-    ensures { λ r. ⌜ r ≡ enough k first t ⌝ }
+    ensures { λ r. ⌜ r ≡ isEnough k first t ⌝ }
 {
     let top = power(k);
     let small = t.extra < 2097152;
@@ -65,9 +65,9 @@ fn is_enough(t: Quick, first: u32, k: u8) -> bool
 // than 2 ^ 32.
 fn is_tried(count: usize, i: u8) -> bool
     requires { ⌜ i ≤ 24 ⌝ }
-    ensures { λ r. ⌜ r ≡ tried count i ⌝ }
+    ensures { λ r. ⌜ r ≡ isTried count i ⌝ }
 {
-    both(0 < i, both(0 < count, least(count, i) <= 1048576))
+    both(0 < i, both(0 < count, least_of(count, i) <= 1048576))
 }
 
 // Whether `count` weights, each at most `extra` above `least`, are at most the total together.
@@ -81,7 +81,7 @@ fn is_bounded(least: u32, extra: u32, count: usize, total: u64) -> bool
 
 // Whether a level's weight is what its half's total asks.
 fn weighs(weight: u64, first: u32, total: u64) -> bool
-    ensures { λ r. ⌜ r ≡ fits first total weight ⌝ }
+    ensures { λ r. ⌜ r ≡ weighs first total weight ⌝ }
 {
     both(weight <= total, implied(first == 0, weight == total))
 }
@@ -93,12 +93,12 @@ fn weighs(weight: u64, first: u32, total: u64) -> bool
 pub fn sound_buckets(level: &[u32], count: usize, k: u8, i: u8, total: u64) -> bool
     requires { ⌜ (2 + 3 * count ≤ length (now level)) × (count ≤ 1024) × (k ≤ 20) × (i ≤ 24) ⌝ }
     ensures { λ r. ⌜ r ≡ (soundBuckets k i (getD (now (level .entry)) 1 0) (slots (now (level .entry)) 0 count)
-        && fits (getD (now (level .entry)) 1 0) total (weightOf (slots (now (level .entry)) 0 count))) ⌝ }
+        && weighs (getD (now (level .entry)) 1 0) total (weightOf (slots (now (level .entry)) 0 count))) ⌝ }
 {
     let first = level[1];
     if is_tried(count, i) {
-        let low = least(count, i);
-        let high = most(count, i);
+        let low = least_of(count, i);
+        let high = most_of(count, i);
         if 0 < first {
             let t = quick_buckets(level, count, low, high);
             if is_enough(t, first, k) {

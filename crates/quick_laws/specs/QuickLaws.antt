@@ -11,13 +11,13 @@ use lib.Pow.{pow-pos, pow-mono}
 use borrow.Author.Tests.{le-leb, lt-leb}
 use Rattle.model.specs.Level.{Bucket}
 use Rattle.model.specs.Sound.{weightOf}
-use Rattle.laws.specs.Cases.{lt-or-ge, by-lt, by-le}
-use Rattle.laws.specs.Reflect.{Tests, tests-same, leb-tests, ltb-tests, eqb-tests, and-tests}
-use Rattle.laws.specs.SoundFacts.{SoundBucket, Chained}
+use Rattle.laws.specs.Cond.{lt-or-ge, by-lt, by-le}
+use Rattle.laws.specs.Tests.{Tests, tests-same, leb-tests, ltb-tests, eqb-tests, and-tests}
+use Rattle.laws.specs.SoundLevel.{SoundBucket, Chained}
 use Rattle.words.specs.Bits.{or-none, or-least, xor-none, lone-bit}
 use Rattle.pass_laws.specs.Pass.{less, leastOf}
 use Rattle.pass_laws.specs.PassLaws.{before-is, aligned, chained-start}
-use Rattle.quick_laws.specs.Quick.{above, over, quickBucket, quickAll, marked, quickEach, mostOf, enough, tried}
+use Rattle.quick_laws.specs.Quick.{above, mask, quickBucket, quickAll, mark, quickEach, mostOf, isEnough, isTried}
 use Rattle.quick_laws.specs.declared.Quick.{Quick}
 
 -- ---- the tests of one number
@@ -45,8 +45,8 @@ none-zero : {P : Type 0} (m : ℕ) → 0 < m → m ≡ 0 → P
 none-zero m h e = absurd (omega arith)
 
 -- words below 2 ^ 31 compare alike, signed or unsigned
-not-over : (x y m : ℕ) → x < 2147483648 → y < 2147483648 → 0 < m → m < 4294967296 → bitAnd (over x y) m ≡ 0 → x ≤ y
-not-over x y m hx hy some word =
+mask-none : (x y m : ℕ) → x < 2147483648 → y < 2147483648 → 0 < m → m < 4294967296 → bitAnd (mask x y) m ≡ 0 → x ≤ y
+mask-none x y m hx hy some word =
     by-lt {a = 4294967295} {b = 0} (bitXor 2147483648 y) (bitXor 2147483648 x) (λ (z : ℕ). bitAnd z m ≡ 0 → x ≤ y)
     (λ lt e. none-zero m some (no-bit m word e))
     (λ ge e. same-order _ _ x y (xor-shifted 1 31 x hx) (xor-shifted 1 31 y hy) ge)
@@ -87,7 +87,7 @@ light-sum count i e =
     (λ one h. let alone : 0 + e < 2 ^ suc i = omega (arith, h, pow-pos (suc i)) in rw (lt-leb 2 count one) alone)
 
 -- a mark means that the end is within reach
-pub mark-inside : (k e : ℕ) (t : Quick) → k ≤ 20 → Enough k e (marked t) → Enough k e t × (t .end ≤ 2 ^ 21)
+pub mark-inside : (k e : ℕ) (t : Quick) → k ≤ 20 → Enough k e (mark t) → Enough k e t × (t .end ≤ 2 ^ 21)
 mark-inside k e t few p =
     let r = or-least (t .reach) (t .end) in
     let within : t .end / 2 < 2 ^ k = omega (arith, p .inside, r .1) in
@@ -125,7 +125,7 @@ module _ (k i count e : ℕ) (few : k ≤ 20) (low : i ≤ 24) (small : leastOf 
     at : b .offset ≡ t .end
     own : bitAnd (b .width) (less (b .width)) ≡ 0
     multiple : bitAnd (b .offset) (less (b .width)) ≡ 0
-    spread : bitAnd (over (above (b .weight) least) most) (less (b .width)) ≡ 0
+    masked : bitAnd (mask (above (b .weight) least) most) (less (b .width)) ≡ 0
     near : above (b .weight) least ≤ e
 
   quick-read : (t : Quick) (b : Bucket) → Enough k e (quick t b) → Read t b
@@ -134,7 +134,7 @@ module _ (k i count e : ℕ) (few : k ≤ 20) (low : i ≤ 24) (small : leastOf 
       let o = b .offset in
       let w = b .width in
       let x = above (b .weight) least in
-      let f0 = or-none _ (bitAnd (over x most) (less w)) (p .exact) in
+      let f0 = or-none _ (bitAnd (mask x most) (less w)) (p .exact) in
       let f1 = or-none _ (bitAnd o (less w)) (f0 .0) in
       let f2 = or-none _ (bitAnd w (less w)) (f1 .0) in
       let f3 = or-none (t .faults) (bitXor (t .end) o) (f2 .0) in
@@ -144,7 +144,7 @@ module _ (k i count e : ℕ) (few : k ≤ 20) (low : i ≤ 24) (small : leastOf 
         at = sym (xor-none (t .end) o (f3 .1));
         own = f2 .1;
         multiple = f1 .1;
-        spread = f0 .1;
+        masked = f0 .1;
         near = omega (arith, p .near, h .1);
       }
 
@@ -188,8 +188,8 @@ module _ (k i count e : ℕ) (few : k ≤ 20) (low : i ≤ 24) (small : leastOf 
           at = r .at;
           shape = aligned k (b .offset) w some within (rw before at (r .own)) (rw before at (r .multiple));
           light = λ wide.
-              let bound = not-over (above x least) most (less w) (omega (arith, r .near, light)) (most-small count i low) (omega (arith, before))
-              (omega (arith, before, within, pow-mono few)) (r .spread) in
+              let bound = mask-none (above x least) most (less w) (omega (arith, r .near, light)) (most-small count i low) (omega (arith, before))
+              (omega (arith, before, within, pow-mono few)) (r .masked) in
               omega (arith, s .1, light-sum count i (above x least) bound);
           heavy = λ many. rw (le-leb 2 count many) at (s .0);
         },
@@ -215,7 +215,7 @@ module _ (k i count e : ℕ) (few : k ≤ 20) (low : i ≤ 24) (small : leastOf 
 
   pub each-before : (t : Quick) (bs : List Bucket) → Enough k e (quickEach least most t bs) → Enough k e t
   each-before t [] p = p
-  each-before t (b ∷ bs) p = quick-read t b (mark-inside k e (quick t b) few (each-before (marked (quick t b)) bs p) .0) .before
+  each-before t (b ∷ bs) p = quick-read t b (mark-inside k e (quick t b) few (each-before (mark (quick t b)) bs p) .0) .before
 
   -- an end at most doubles from bucket to bucket, so a few buckets without a mark do not wrap; what holds after them holds from them on
   pub all-held : (m : ℕ) (t : Quick) (bs cs : List Bucket) → m + length bs ≤ 26 → 21 ≤ m → t .end ≤ 2 ^ m → Leads (t .end) (bs ++ cs)
@@ -236,20 +236,20 @@ module _ (k i count e : ℕ) (few : k ≤ 20) (low : i ≤ 24) (small : leastOf 
   each-held t [] near leads p z = (z, omega arith)
   each-held t (b ∷ bs) near leads p z =
       let u = quick t b in
-      let q = mark-inside k e u few (each-before (marked u) bs p) in
+      let q = mark-inside k e u few (each-before (mark u) bs p) in
       let r = quick-read t b (q .0) in
       let n = next 21 t b bs (omega arith) (omega arith) near leads r in
-      held 21 t b bs r n (each-held (marked u) bs (q .1) (past-start 21 t b bs n) p z)
+      held 21 t b bs r n (each-held (mark u) bs (q .1) (past-start 21 t b bs n) p z)
 
 -- ---- the level
 
 -- what the tests of a level require
-abbrev pub Tested : ℕ → ℕ → Quick → Type 0
+abbrev Tested : ℕ → ℕ → Quick → Type 0
 Tested k first t = (first < 2 ^ k) × Enough k (t .extra) t × (t .end ≡ 2 ^ k) × (t .extra < 2097152)
 
-pub enough-tests : (k first : ℕ) (t : Quick) → Tests (enough k first t) (Tested k first t)
-unfolding enough
-enough-tests k first t =
+pub isEnough-tests : (k first : ℕ) (t : Quick) → Tests (isEnough k first t) (Tested k first t)
+unfolding isEnough
+isEnough-tests k first t =
     tests-same
     (and-tests (ltb-tests first (2 ^ k)) (and-tests (eqb-tests (t .faults) 0) (and-tests (ltb-tests (t .reach / 2) (2 ^ k))
     (and-tests (eqb-tests (t .end) (2 ^ k)) (ltb-tests (t .extra) 2097152)))))
@@ -257,9 +257,9 @@ enough-tests k first t =
     (λ f. let p = f .1 in (f .0, (p .exact, (p .inside, (f .2, f .3)))))
 
 -- what holds if the quick pass is tried
-pub tried-tests : (count i : ℕ) → Tests (tried count i) ((0 < i) × (0 < count) × (leastOf count i ≤ 1048576))
-unfolding tried
-tried-tests count i =
+pub isTried-tests : (count i : ℕ) → Tests (isTried count i) ((0 < i) × (0 < count) × (leastOf count i ≤ 1048576))
+unfolding isTried
+isTried-tests count i =
     tests-same (and-tests (ltb-tests 0 i) (and-tests (ltb-tests 0 count) (leb-tests (leastOf count i) 1048576))) (λ p. (p .0, p .1 .0, p .1 .1))
     (λ p. (p .0, (p .1, p .2)))
 

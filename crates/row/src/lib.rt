@@ -7,13 +7,13 @@ ghost use mathlib.Core.Path.{_≡_};
 ghost use Prim.Native.Nat.{_+_, _≤_};
 ghost use lib.ListN.{length};
 ghost use Rattle.words.specs.Slot.{content};
-ghost use Rattle.quick_laws.specs.Quick.{over, quickBucket};
-ghost use Rattle.quick_laws.specs.Rows.{opened, row, ending, seam, turn};
+ghost use Rattle.quick_laws.specs.Quick.{mask, quickBucket};
+ghost use Rattle.quick_laws.specs.Rows.{openRow, quickRow, endAt, seamAt, quickTurn};
 
 // All bits if x is more than y, both taken as signed words, else none. The machine compares four signed words in one operation, and needs
 // more for unsigned ones.
 fn mask(x: u32, y: u32) -> u32
-    ensures { λ r. ⌜ r ≡ over x y ⌝ }
+    ensures { λ r. ⌜ r ≡ mask x y ⌝ }
 {
     if 2147483648 ^ y < 2147483648 ^ x {
         4294967295
@@ -43,7 +43,7 @@ pub fn quick_bucket(t: Quick, b: Slot, least: u32, most: u32) -> Quick
 // Each row takes its first offset as its start; the seam test links the rows. An end at most doubles from bucket to bucket, so none of a
 // row's ends wraps if its first offset is within reach.
 fn open_row(t: Quick, offset: u32) -> Quick
-    ensures { λ r. ⌜ r ≡ opened t offset ⌝ }
+    ensures { λ r. ⌜ r ≡ openRow t offset ⌝ }
 {
     Quick {
         end: offset,
@@ -56,7 +56,7 @@ fn open_row(t: Quick, offset: u32) -> Quick
 // The four slots from word `at` on.
 fn quick_row(t: Quick, rest: &[u32], at: usize, least: u32, most: u32) -> Quick
     requires { ⌜ at + 12 ≤ length (now rest) ⌝ }
-    ensures { λ r. ⌜ r ≡ row least most t (now (rest .entry)) at ⌝ }
+    ensures { λ r. ⌜ r ≡ quickRow least most t (now (rest .entry)) at ⌝ }
 {
     let none = open_row(t, rest[at]);
     let one = quick_bucket(none, slot_from(rest, at), least, most);
@@ -68,7 +68,7 @@ fn quick_row(t: Quick, rest: &[u32], at: usize, least: u32, most: u32) -> Quick
 // Where the bucket at word `at` ends.
 fn end_at(rest: &[u32], at: usize) -> u32
     requires { ⌜ at + 2 ≤ length (now rest) ⌝ }
-    ensures { λ r. ⌜ r ≡ ending (now (rest .entry)) at ⌝ }
+    ensures { λ r. ⌜ r ≡ endAt (now (rest .entry)) at ⌝ }
 {
     std::num::wrapping_add_u32(rest[at], rest[at + 1])
 }
@@ -76,7 +76,7 @@ fn end_at(rest: &[u32], at: usize) -> u32
 // 0 if the bucket at word `at` ends at the offset of the next.
 fn seam_at(rest: &[u32], at: usize) -> u32
     requires { ⌜ at + 4 ≤ length (now rest) ⌝ }
-    ensures { λ r. ⌜ r ≡ seam (now (rest .entry)) at ⌝ }
+    ensures { λ r. ⌜ r ≡ seamAt (now (rest .entry)) at ⌝ }
 {
     end_at(rest, at) ^ rest[at + 3]
 }
@@ -84,7 +84,7 @@ fn seam_at(rest: &[u32], at: usize) -> u32
 // A turn: four rows of four slots. The compiler reads a row's words whole and works on the four rows at once.
 pub fn quick_turn(t: Rows, rest: &[u32], least: u32, most: u32) -> Rows
     requires { ⌜ 48 ≤ length (now rest) ⌝ }
-    ensures { λ r. ⌜ r ≡ turn least most t (now (rest .entry)) ⌝ }
+    ensures { λ r. ⌜ r ≡ quickTurn least most t (now (rest .entry)) ⌝ }
 {
     let one = t.one;
     let two = t.two;

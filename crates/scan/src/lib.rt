@@ -11,7 +11,7 @@ ghost use lib.ListN.{length, getD};
 ghost use Rattle.shape.specs.Layout.{slotStart};
 ghost use Rattle.model.specs.Words.{decodeLevel};
 ghost use Rattle.model.specs.Block.{sumFrom};
-ghost use Rattle.laws.specs.Place.{place, EndsRise};
+ghost use Rattle.laws.specs.SlotOf.{slotOf, EndsRise};
 ghost use Rattle.scan.specs.Search.{isPast, Spans};
 
 // Where a bucket ends.
@@ -61,7 +61,7 @@ fn gallop(level: &[u32], x: u32) -> Span
 // How many leading buckets end at or before offset x: the slot of the first that ends after it, or the count. Bisects the span.
 pub fn find(level: &[u32], x: u32) -> usize
     requires { ⌜ (slotStart (getD (now level) 0 0) ≤ length (now level)) × EndsRise 0 (decodeLevel (now level) .buckets) ⌝ }
-    ensures { λ r. ⌜ r ≡ place x (decodeLevel (now (level .entry)) .buckets) ⌝ }
+    ensures { λ r. ⌜ r ≡ slotOf x (decodeLevel (now (level .entry)) .buckets) ⌝ }
 {
     let span = gallop(level, x);
     let mut low = span.low;

@@ -7,7 +7,7 @@ use Prim.Native.Nat.{ℕ}
 use lib.Dec.{eqb}
 use borrow.Author.Tests.{eq-eqb, ne-eqb}
 use Rattle.model.specs.Words.{join}
-use Rattle.laws.specs.Cases.{eq-or-ne}
+use Rattle.laws.specs.Cond.{eq-or-ne}
 use Rattle.grammar.specs.Grammar.{grammar}
 use Rattle.lines.specs.Bytes.{started, stepped, read-line}
 use Rattle.lent.specs.Lent.{afterLine}

@@ -5,7 +5,7 @@ use mathlib.Core.Path.{_≡_, refl}
 use Prim.Native.Nat.{ℕ}
 use Rattle.shape.specs.Limits.{Reply, accepted}
 use Rattle.model.specs.declared.Call.the-variants.{Make, Clock, Delivery, Query}
-use Rattle.laws.specs.Cases.{by-eq}
+use Rattle.laws.specs.Cond.{by-eq}
 use Rattle.grammar.specs.declared.Parsed.{Parsed}
 use Rattle.grammar.specs.declared.Parsed.the-variants.{Read, Unread}
 use Rattle.grammar.specs.Grammar.{firstField, laterFields, every, isNumber, valueOf, unread, asks, called, ordered, grammar, readingOf}

@@ -12,7 +12,7 @@ use Rattle.grammar.specs.Grammar.{readingOf}
 use Rattle.lines.specs.declared.Line.{Line}
 use Rattle.lines.specs.Bytes.{started, stepped, finished}
 use Rattle.model.specs.Reply.{replyOf}
-use Rattle.text.specs.Text.{written, put}
+use Rattle.text.specs.Text.{written, stored}
 use Rattle.text.specs.TextLaws.{text-short, unread-short}
 use Rattle.lent.specs.declared.Said.{Said}
 use Rattle.lent.specs.declared.Said.the-variants as said
@@ -45,8 +45,8 @@ room-behind out used h = rw (length-take-le (length out - used) (drop used out) 
 
 -- writing a text there
 pub text-behind : (text out room last rest : List ℕ) (used added : ℕ) → used ≤ length out → 32 ≤ length room → added ≡ written text room
-    → last ≡ put text room → take (used + added) (take used out ++ (last ++ rest)) ≡ take used out ++ text
-unfolding written put
+    → last ≡ stored text room → take (used + added) (take used out ++ (last ++ rest)) ≡ take used out ++ text
+unfolding written stored
 text-behind text out room last rest used added h long a l =
     let more = drop (length text) room ++ rest in
     let test = le-ltb (length room) 32 long in

@@ -5,7 +5,7 @@ ghost use mathlib.Core.Path.{_≡_};
 ghost use mathlib.Core.List.{List, _++_, foldl};
 ghost use Prim.Native.Nat.{ℕ, _+_, _*_, _≤_};
 ghost use lib.ListN.{length, take};
-ghost use Rattle.text.specs.Text.{written, put};
+ghost use Rattle.text.specs.Text.{written, stored};
 ghost use Rattle.lent.specs.Said.{saidText};
 ghost use Rattle.session.specs.Protocol.{zeroBuffer};
 ghost use Rattle.session.specs.Session.{fresh, endLine, feedByte, endInput, writtenOut, benchOf};
@@ -24,7 +24,7 @@ pub struct Session {
 // Writes the line of an answer to the front of the buffer. Returns its length.
 fn spell(said: Said, out: &mut [u8]) -> usize
     ensures { λ r. ⌜ r ≡ written (saidText said) (now (out .entry)) ⌝ }
-    ensures { λ _. ⌜ now (out .exit) ≡ put (saidText said) (now (out .entry)) ⌝ }
+    ensures { λ _. ⌜ now (out .exit) ≡ stored (saidText said) (now (out .entry)) ⌝ }
 {
     match said {
         Said::Answer(answer) => text::answer(answer, out),

@@ -13,11 +13,11 @@ ghost use Rattle.model.specs.Sound.{soundBlock};
 ghost use mathlib.Core.Bool.{true};
 ghost use Rattle.laws.specs.Proper.{Proper};
 ghost use Rattle.book.specs.Part.{InBook};
-ghost use Rattle.sweep.specs.Sweeps.{AllSound, emptied, advanced};
+ghost use Rattle.sweep.specs.Sweeps.{AllSound, cleared, advanced};
 
 fn clear_block(book: &mut [u32], s: Shape, grade: u32)
     requires { ⌜ InBook s grade (now book) ⌝ }
-    ensures { λ _. ⌜ now (book .exit) ≡ withBlock s grade (emptied s grade) (now (book .entry)) ⌝ }
+    ensures { λ _. ⌜ now (book .exit) ≡ withBlock s grade (cleared s grade) (now (book .entry)) ⌝ }
 {
     let a = s.block_start(grade);
     let e = a + s.block_len();
@@ -27,7 +27,7 @@ fn clear_block(book: &mut [u32], s: Shape, grade: u32)
 // Empties every block. The words may be any.
 pub fn clear_blocks(book: &mut [u32], s: Shape)
     requires { ⌜ (length (now book) ≡ bookWords s) × Proper s ⌝ }
-    ensures { λ _. ⌜ now (book .exit) ≡ take headLen (now (book .entry)) ++ join (upFrom (emptied s) 0 (s .g)) ⌝ }
+    ensures { λ _. ⌜ now (book .exit) ≡ take headLen (now (book .entry)) ++ join (upFrom (cleared s) 0 (s .g)) ⌝ }
 {
     let count = s.g as u32;
     let mut grade: u32 = 0;

@@ -38,5 +38,5 @@ unfoldable pub written : List ℕ → List ℕ → ℕ
 written text buffer = cond (ltb (length buffer) 32) 0 (length text)
 
 -- the buffer afterwards: the text at its front, and the rest as it was
-unfoldable pub put : List ℕ → List ℕ → List ℕ
-put text buffer = cond (ltb (length buffer) 32) buffer (text ++ drop (length text) buffer)
+unfoldable pub stored : List ℕ → List ℕ → List ℕ
+stored text buffer = cond (ltb (length buffer) 32) buffer (text ++ drop (length text) buffer)

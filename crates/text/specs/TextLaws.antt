@@ -15,12 +15,12 @@ use Rattle.model.specs.Reply.{numberOf, replyOf}
 use Rattle.model.specs.declared.Answer.the-variants.{Refused}
 use Rattle.model.specs.declared.Refusal.{Refusal}
 use Rattle.model.specs.declared.Refusal.the-variants.{Shape, Length, Grade, Volume, Window, Limit, Head, Ahead, Late, Back, Block, Full}
-use Rattle.laws.specs.Cases.{by-lt, and-true}
+use Rattle.laws.specs.Cond.{by-lt, and-true}
 use Rattle.grammar.specs.Grammar.{every, isDigit, valueFrom, valueOf, isDecimal}
-use Rattle.text.specs.Text.{digitsOf, decimal, numbered, sumWord, refusedWord, acceptedText, textOf, unreadText, written, put}
+use Rattle.text.specs.Text.{digitsOf, decimal, numbered, sumWord, refusedWord, acceptedText, textOf, unreadText, written, stored}
 
 -- storing a text and another after it
-pub sets-append : (s t l : List ℕ) (i : ℕ) → sets l i (s ++ t) ≡ sets (sets l i s) (i + length s) t
+sets-append : (s t l : List ℕ) (i : ℕ) → sets l i (s ++ t) ≡ sets (sets l i s) (i + length s) t
 sets-append [] t l i = rw add-zero
 sets-append (a ∷ s) t l i =
     let e : suc i + length s ≡ i + suc (length s) = omega arith in
@@ -32,14 +32,14 @@ module _ (text out : List ℕ) (short : length out < 32) where
   unfolding written
   written-none = rw (lt-ltb (length out) 32 short)
 
-  pub put-none : out ≡ put text out
-  unfolding put
-  put-none = rw (lt-ltb (length out) 32 short)
+  pub stored-none : out ≡ stored text out
+  unfolding stored
+  stored-none = rw (lt-ltb (length out) 32 short)
 
 -- in any other buffer a text is stored from the front on
 pub stored-front : (text out : List ℕ) {r : ℕ} {exit : List ℕ} → 32 ≤ length out → length text ≤ 32
-    → (r ≡ length text) × (exit ≡ sets out 0 text) → (r ≡ written text out) × (exit ≡ put text out)
-unfolding written put
+    → (r ≡ length text) × (exit ≡ sets out 0 text) → (r ≡ written text out) × (exit ≡ stored text out)
+unfolding written stored
 stored-front text out room fits stored =
     rw (le-ltb (length out) 32 room)
     (stored .0, stored .1 ∙ sets-eq text out 0 (omega arith) ∙ rw zero-add)
@@ -57,7 +57,7 @@ digits-step (suc most) x h = let d : suc most - 1 ≡ most = omega arith in rw d
 
 -- several digits are those before the last, and the last
 module _ (most x : ℕ) (room : 0 < most) (h : 10 ≤ x) where
-  pub digits-more : digitsOf most x ≡ digitsOf (most - 1) (x / 10) ++ (48 + x % 10) ∷ []
+  digits-more : digitsOf most x ≡ digitsOf (most - 1) (x / 10) ++ (48 + x % 10) ∷ []
   digits-more = digits-step most x room ∙ rw (le-ltb x 10 h)
 
   pub digits-length : length (digitsOf most x) ≡ length (digitsOf (most - 1) (x / 10)) + 1

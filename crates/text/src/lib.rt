@@ -6,7 +6,7 @@ ghost use Prim.Native.Nat.{_+_, _≤_};
 ghost use lib.ListN.{length};
 ghost use lib.Seq.{sets};
 ghost use Rattle.model.specs.Reply.{numberOf, replyOf};
-ghost use Rattle.text.specs.Text.{digitsOf, numbered, textOf, unreadText, written, put};
+ghost use Rattle.text.specs.Text.{digitsOf, numbered, textOf, unreadText, written, stored};
 
 // Writes a text into the buffer from `at` on. Returns where it ends.
 fn copy(text: &[u8], out: &mut [u8], at: usize) -> usize
@@ -62,7 +62,7 @@ fn number(why: Refusal) -> u64
 // returns 0.
 pub fn answer(a: Answer, out: &mut [u8]) -> usize
     ensures { λ r. ⌜ r ≡ written (textOf (replyOf a)) (now (out .entry)) ⌝ }
-    ensures { λ _. ⌜ now (out .exit) ≡ put (textOf (replyOf a)) (now (out .entry)) ⌝ }
+    ensures { λ _. ⌜ now (out .exit) ≡ stored (textOf (replyOf a)) (now (out .entry)) ⌝ }
 {
     if out.len() < 32 {
         return 0;
@@ -77,7 +77,7 @@ pub fn answer(a: Answer, out: &mut [u8]) -> usize
 // The same for a line that is unread.
 pub fn unread(out: &mut [u8]) -> usize
     ensures { λ r. ⌜ r ≡ written unreadText (now (out .entry)) ⌝ }
-    ensures { λ _. ⌜ now (out .exit) ≡ put unreadText (now (out .entry)) ⌝ }
+    ensures { λ _. ⌜ now (out .exit) ≡ stored unreadText (now (out .entry)) ⌝ }
 {
     if out.len() < 32 {
         return 0;

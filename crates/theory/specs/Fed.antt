@@ -6,11 +6,11 @@ use native.Mathlib.Omega.{arith}
 use Rattle.model.specs.Level.{Level, insert, emptyLevel}
 use Rattle.model.specs.Block.{sumFrom}
 use Rattle.model.specs.Claim.{Each}
-use Rattle.laws.specs.Cases.{Near}
-use Rattle.laws.specs.Tally.{more, share-all}
-use Rattle.laws.specs.Step.{Tracks, tracks-same, insert-tracks, empty-tracks}
-use Rattle.laws.specs.SoundFacts.{SoundLevel}
-use Rattle.laws.specs.Kept.{tracks-sound}
+use Rattle.laws.specs.Cond.{Near}
+use Rattle.laws.specs.SumFrom.{more, share-all}
+use Rattle.laws.specs.Unit.{Tracks, tracks-same, insert-tracks, empty-tracks}
+use Rattle.laws.specs.SoundLevel.{SoundLevel}
+use Rattle.laws.specs.InsertSound.{tracks-sound}
 use Rattle.theory.specs.Near.{tracks-near, tracks-crowded}
 
 -- `vol` decilitres at offset `at`

@@ -11,14 +11,14 @@ use lib.Dec.{leb, eqb}
 use lib.ListN.{length}
 use Rattle.model.specs.Level.{Bucket, Level, bucketOf, levelOf, put, evict, unit, insert}
 use Rattle.model.specs.Block.{sumFrom}
-use Rattle.laws.specs.Cases.{by-lt, by-le, by-eq, lt-or-ge}
-use Rattle.laws.specs.Tally.{share, more, AtLeast, at-least-less, share-all, share-none, share-suc, share-falls, sumFrom-all, sumFrom-falls}
-use Rattle.laws.specs.Rise.{Rising, rising-above, sumFrom-past}
-use Rattle.laws.specs.Step.{Follows, Tracks, insert-tracks, grow-follows}
+use Rattle.laws.specs.Cond.{by-lt, by-le, by-eq, lt-or-ge}
+use Rattle.laws.specs.SumFrom.{share, more, AtLeast, at-least-less, share-all, share-none, share-suc, share-falls, sumFrom-all, sumFrom-falls}
+use Rattle.laws.specs.Put.{Rising, rising-above, sumFrom-past}
+use Rattle.laws.specs.Unit.{Follows, Tracks, insert-tracks, grow-follows}
 use Rattle.theory.specs.Fed.{Event, fed, counted, Inside, fed-tracks}
 
 -- if buckets were evicted, something was delivered at the offset just below `first`
-abbrev pub Edge : (ℕ → ℕ) → Level → Type 0
+abbrev Edge : (ℕ → ℕ) → Level → Type 0
 Edge c l = (f : ℕ) → l .first ≡ suc f → c (suc f) < c f
 
 -- the n highest offsets at which c counts, each with its count; `first` is the next lower one + 1, or 0 if there is none
@@ -183,7 +183,7 @@ module _ {k n : ℕ} {c : ℕ → ℕ} where
           (λ (least : suc f ≤ m .first). least)
           (lt-or-ge (m .first) (suc f))
 
-  pub highest-one : (l m : Level) → Highest k n c l → Highest k n c m → l ≡ m
+  highest-one : (l m : Level) → Highest k n c l → Highest k n c m → l ≡ m
   highest-one l m p q =
       let f : l .first ≡ m .first = omega (arith, first-most l m p q, first-most m l q p) in
       let bs : l .buckets ≡ m .buckets =

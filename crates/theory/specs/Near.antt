@@ -9,12 +9,12 @@ use native.Mathlib.Omega.{arith}
 use Rattle.model.specs.Level.{Bucket, Level}
 use Rattle.model.specs.Block.{sumFrom}
 use Rattle.model.specs.Sound.{weightOf}
-use Rattle.laws.specs.Cases.{Near, by-le, lt-or-ge}
-use Rattle.laws.specs.Tally.{Falling, AtLeast, sumFrom-all}
-use Rattle.laws.specs.Chain.{Dyadic, Chain, chain-above}
-use Rattle.laws.specs.Rise.{rising-above}
-use Rattle.laws.specs.Step.{Follows, Tracks}
-use Rattle.laws.specs.Kept.{tracks-heavy}
+use Rattle.laws.specs.Cond.{Near, by-le, lt-or-ge}
+use Rattle.laws.specs.SumFrom.{Falling, AtLeast, sumFrom-all}
+use Rattle.laws.specs.Add.{Dyadic, Chain, chain-above}
+use Rattle.laws.specs.Put.{rising-above}
+use Rattle.laws.specs.Unit.{Follows, Tracks}
+use Rattle.laws.specs.InsertSound.{tracks-heavy}
 
 -- an interval of more than one tick was halved fewer than k times
 shallow : {k a width : ℕ} (d : Dyadic k a width) → 1 < width → suc (d .depth) ≤ k

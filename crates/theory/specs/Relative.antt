@@ -8,9 +8,9 @@ use native.Mathlib.Omega.{arith}
 use Rattle.model.specs.Level.{Level}
 use Rattle.model.specs.Block.{sumFrom, serving, upFrom}
 use Rattle.model.specs.Claim.{Admits}
-use Rattle.laws.specs.Cases.{Near, by-le}
-use Rattle.laws.specs.Step.{Tracks}
-use Rattle.laws.specs.Kept.{sound-serves}
+use Rattle.laws.specs.Cond.{Near, by-le}
+use Rattle.laws.specs.Unit.{Tracks}
+use Rattle.laws.specs.InsertSound.{sound-serves}
 use Rattle.theory.specs.Near.{tracks-near, tracks-crowded}
 use Rattle.theory.specs.Fed.{Event, fed, counted, Inside, fed-tracks, fed-sound}
 

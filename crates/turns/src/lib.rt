@@ -11,11 +11,11 @@ ghost use Prim.Native.Nat.{_+_, _-_, _*_, _<_, _≤_};
 ghost use lib.Dec.{leb, eqb};
 ghost use lib.ListN.{length};
 ghost use Rattle.model.specs.Words.{slots};
-ghost use Rattle.quick_laws.specs.Quick.{fresh, marked, quickEach};
-ghost use Rattle.quick_laws.specs.Rows.{joined, ReadRows, ByRows};
+ghost use Rattle.quick_laws.specs.Quick.{fresh, mark, quickEach};
+ghost use Rattle.quick_laws.specs.Rows.{joinRows, ReadRows, ByRows};
 
 // Before the first bucket, which has this width.
-fn begin(first: u32, width: u32) -> Quick
+fn fresh(first: u32, width: u32) -> Quick
     ensures { λ r. ⌜ r ≡ fresh first width ⌝ }
 {
     Quick {
@@ -28,7 +28,7 @@ fn begin(first: u32, width: u32) -> Quick
 
 // Marks the end: it must be within reach, so that it has not wrapped.
 fn mark(t: Quick) -> Quick
-    ensures { λ r. ⌜ r ≡ marked t ⌝ }
+    ensures { λ r. ⌜ r ≡ mark t ⌝ }
 {
     Quick {
         end: t.end,
@@ -73,10 +73,10 @@ fn quick_turns(level: &[u32], count: usize, least: u32, most: u32) -> Turned
     ensures { λ r. ⌜ ReadRows least most (now (level .entry)) count (r .rows) (r .at) ⌝ }
 {
     let mut t = Rows {
-        one: begin(level[1], level[3]),
-        two: begin(0, 1),
-        three: begin(0, 1),
-        four: begin(0, 1),
+        one: fresh(level[1], level[3]),
+        two: fresh(0, 1),
+        three: fresh(0, 1),
+        four: fresh(0, 1),
         gap: 0,
         end: level[1],
     };
@@ -91,8 +91,8 @@ fn quick_turns(level: &[u32], count: usize, least: u32, most: u32) -> Turned
 }
 
 // What all rows have collected together.
-fn join(t: Rows) -> Quick
-    ensures { λ r. ⌜ r ≡ joined t ⌝ }
+fn join_rows(t: Rows) -> Quick
+    ensures { λ r. ⌜ r ≡ joinRows t ⌝ }
 {
     let one = t.one;
     let two = t.two;
@@ -112,5 +112,5 @@ pub fn quick_buckets(level: &[u32], count: usize, least: u32, most: u32) -> Quic
 {
     let turned = quick_turns(level, count, least, most);
     let rows = turned.rows;
-    quick_rest(join(rows), level, turned.at, count, least, most)
+    quick_rest(join_rows(rows), level, turned.at, count, least, most)
 }

@@ -8,8 +8,8 @@ use native.Mathlib.Omega.{arith}
 use lib.Arith.{bin-ind}
 use lib.Bits.{bitAnd, bitOr, bitXor, and-step, and-le-l, and-le-r, and-self, or-add-and, xor-add-and, xor-self}
 use lib.Dec.{eqb}
-use Rattle.laws.specs.Cases.{lt-or-ge}
-use Rattle.laws.specs.Reflect.{tests-same, tests-equal, eqb-tests, and-tests}
+use Rattle.laws.specs.Cond.{lt-or-ge}
+use Rattle.laws.specs.Tests.{tests-same, tests-equal, eqb-tests, and-tests}
 
 module _ (a b : ℕ) where
   pub or-none : bitOr a b ≡ 0 → (a ≡ 0) × (b ≡ 0)

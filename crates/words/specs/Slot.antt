@@ -26,13 +26,13 @@ pub part-all : (ws : List ℕ) (n : ℕ) → take (length ws - n) (drop n ws) �
 part-all ws n = take-all (length ws - n) (drop n ws) (omega (arith, length-drop n ws))
 
 -- words from `a` on, and n words further
-pub moved : (rest ws : List ℕ) (a n : ℕ) → rest ≡ drop a ws → take (length rest - n) (drop n rest) ≡ drop (a + n) ws
-moved rest ws a n e = part-all rest n ∙ ap (drop n) e ∙ drop-drop n a ws
+pub part-past : (rest ws : List ℕ) (a n : ℕ) → rest ≡ drop a ws → take (length rest - n) (drop n rest) ≡ drop (a + n) ws
+part-past rest ws a n e = part-all rest n ∙ ap (drop n) e ∙ drop-drop n a ws
 
 -- after slot j, slot j + 1 is at the front
 pub front-moved : (rest ws : List ℕ) (j : ℕ) → rest ≡ drop (slotStart j) ws → take (length rest - slotLen) (drop slotLen rest) ≡ drop (slotStart (j + 1)) ws
 front-moved rest ws j e =
-    moved rest ws (slotStart j) 3 e ∙ ap (λ (n : ℕ). drop n ws) {x = slotStart j + 3} {y = slotStart (j + 1)} (omega arith)
+    part-past rest ws (slotStart j) 3 e ∙ ap (λ (n : ℕ). drop n ws) {x = slotStart j + 3} {y = slotStart (j + 1)} (omega arith)
 
 -- the slot that starts n words after slot j
 pub front-at : (ws rest : List ℕ) (j n m : ℕ) → rest ≡ drop (slotStart j) ws → n + slotLen * j ≡ slotLen * m → front (drop n rest) ≡ slot ws m

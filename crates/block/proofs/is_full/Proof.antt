@@ -4,7 +4,7 @@ use native.Mathlib.Omega.{arith}
 use borrow.Author.Needs.{needs}
 use Rattle.model.specs.Block.{interval}
 use Rattle.laws.specs.BlockWords.{blockWords-halves}
-use Rattle.laws.specs.Halves.{total-decode}
+use Rattle.laws.specs.HalfWrites.{total-decode}
 use Rattle.block.proofs.is_full.Statement.{statement}
 use Rattle.block.proofs.is_full.Tie as tie
 

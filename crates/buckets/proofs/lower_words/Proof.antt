@@ -4,7 +4,7 @@ use Prim.Native.Nat.{_-_, _≤_}
 use native.Mathlib.Omega.{arith}
 use lib.ListN.{length, length-set}
 use borrow.Author.Needs.{needs}
-use Rattle.laws.specs.Moves.{lower, lower-none, lower-more}
+use Rattle.laws.specs.SlotWrites.{lower, lower-none, lower-more}
 use Rattle.buckets.proofs.lower_words.Statement.{statement}
 use Rattle.buckets.proofs.lower_words.Tie as tie
 

@@ -4,7 +4,7 @@ use Prim.Native.Nat.{_+_, _-_, _≤_}
 use native.Mathlib.Omega.{arith}
 use lib.ListN.{length, length-set}
 use borrow.Author.Needs.{needs}
-use Rattle.laws.specs.Moves.{raisedFrom, raise-none, raise-all, raise-more}
+use Rattle.laws.specs.SlotWrites.{raisedFrom, raise-none, raise-all, raise-more}
 use Rattle.buckets.proofs.raise_words.Statement.{statement}
 use Rattle.buckets.proofs.raise_words.Tie as tie
 

@@ -2,7 +2,7 @@
 use mathlib.Core.Path.{ap, _∙_}
 use native.Mathlib.Omega.{arith}
 use borrow.Author.Needs.{needs}
-use Rattle.laws.specs.Halves.{emptied, emptied-both}
+use Rattle.laws.specs.HalfWrites.{emptied, emptied-both}
 use Rattle.erase.proofs.clear.Statement.{statement}
 use Rattle.erase.proofs.clear.Tie as tie
 

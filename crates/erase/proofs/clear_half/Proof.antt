@@ -7,7 +7,7 @@ use lib.ListN.{length, length-set}
 use borrow.Author.Needs.{needs}
 use Rattle.laws.specs.BlockWrites.{withLevel}
 use Rattle.laws.specs.BlockWords.{blockWords-halves}
-use Rattle.laws.specs.Halves.{withLevels, emptyWords, emptied}
+use Rattle.laws.specs.HalfWrites.{withLevels, emptyWords, emptied}
 use Rattle.erase.proofs.clear_half.Statement.{statement}
 use Rattle.erase.proofs.clear_half.Tie as tie
 

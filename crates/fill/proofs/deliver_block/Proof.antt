@@ -22,7 +22,7 @@ fill-requires c κs =
     let p = c .before .before .before in
     rw (c .long .ensures .0)
     (record {
-      takes = p .before .before .before .pre;
+      deliverable = p .before .before .before .pre;
       half = p .parity .ensures ∙ ap (λ (j : ℕ). j % 2) (p .before .interval .ensures);
       place = c .before .before .offset .ensures;
     })

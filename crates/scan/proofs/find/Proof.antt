@@ -5,13 +5,13 @@ use native.Mathlib.Omega.{arith}
 use borrow.Author.Needs.{needs}
 use lib.ListN.{getD}
 use Rattle.model.specs.Words.{slot, decodeLevel}
-use Rattle.laws.specs.Place.{place, endOf, slot-most, slot-least}
+use Rattle.laws.specs.SlotOf.{slotOf, endOf, slot-most, slot-least}
 use Rattle.scan.proofs.find.Statement.{statement}
 use Rattle.scan.proofs.find.Tie as tie
 
 abbrev Inv-loop : tie.InvT-loop
 Inv-loop level x low₀ high₀ low high =
-    let p = place x (decodeLevel level .buckets) in (low ≤ p) × (p ≤ high) × (high ≤ getD level 0 0)
+    let p = slotOf x (decodeLevel level .buckets) in (low ≤ p) × (p ≤ high) × (high ≤ getD level 0 0)
 
 abbrev μ-loop : tie.MeasureT-loop
 μ-loop level x low₀ high₀ low high = high - low

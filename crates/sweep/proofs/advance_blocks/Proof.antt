@@ -4,7 +4,7 @@ use mathlib.Core.Path.{_≡_, refl, sym, _∙_}
 use Prim.Native.Nat.{_-_, _≤_}
 use native.Mathlib.Numerals.{add-one}
 use lib.ListN.{length}
-use Rattle.laws.specs.Sweep.{swept, swept-none, swept-part, swept-more, swept-all}
+use Rattle.laws.specs.BookWrites.{swept, swept-none, swept-part, swept-more, swept-all}
 use Rattle.sweep.specs.Sweeps.{advanced, advanced-size}
 use native.Mathlib.Omega.{arith}
 use Rattle.sweep.proofs.advance_blocks.Statement.{statement}

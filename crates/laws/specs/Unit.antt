@@ -9,10 +9,10 @@ use lib.ListN.{length}
 use Rattle.model.specs.Level.{Bucket, Level, bucketOf, levelOf, grow, firstAfter, evict, unit, insert, emptyLevel}
 use Rattle.model.specs.Block.{sumFrom}
 use Rattle.model.specs.Sound.{weightOf}
-use Rattle.laws.specs.Cases.{by-lt, by-eq}
-use Rattle.laws.specs.Tally.{more, Falling, share-none, share-suc, share-zero, more-falls}
-use Rattle.laws.specs.Chain.{Part, Chain, chain-ext, chain-end, width-pos, add-length, add-weight, add-chain}
-use Rattle.laws.specs.Rise.{Rising, sumFrom-past, put-length, put-weight, put-sum, put-rising}
+use Rattle.laws.specs.Cond.{by-lt, by-eq}
+use Rattle.laws.specs.SumFrom.{more, Falling, share-none, share-suc, share-zero, more-falls}
+use Rattle.laws.specs.Add.{Part, Chain, chain-ext, chain-end, width-pos, add-length, add-weight, add-chain}
+use Rattle.laws.specs.Put.{Rising, sumFrom-past, put-length, put-weight, put-sum, put-rising}
 
 -- the buckets from `first` on: exact at level 0, and near c at the others
 abbrev pub Follows : ℕ → ℕ → (ℕ → ℕ) → ℕ → List Bucket → Type 0
@@ -102,7 +102,7 @@ module _ (k n i : ℕ) (two : 2 ≤ n) where
           })
           (λ room. rw e at (stays (omega arith)))
 
-  pub unit-tracks : (total : ℕ) (c : ℕ → ℕ) (x : ℕ) (l : Level) → x < 2 ^ k → Tracks k n i total c l → Tracks k n i (suc total) (more x 1 c) (unit n i x l)
+  unit-tracks : (total : ℕ) (c : ℕ → ℕ) (x : ℕ) (l : Level) → x < 2 ^ k → Tracks k n i total c l → Tracks k n i (suc total) (more x 1 c) (unit n i x l)
   unfolding unit
   unit-tracks total c x l inside t =
       let falls = more-falls x 1 (t .falls) in

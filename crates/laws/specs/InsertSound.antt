@@ -7,20 +7,20 @@ use Prim.Native.Nat.{ℕ, zero, suc, _+_, _*_, _^_, _≤_, _<_}
 use native.Mathlib.Nat.{le-refl, eq-zero-or-pos}
 use native.Mathlib.Omega.{arith}
 use lib.ListN.{length}
-use Rattle.model.specs.Level.{Bucket, Level, unit, insert, emptyLevel}
+use Rattle.model.specs.Level.{Bucket, Level, insert, emptyLevel}
 use Rattle.model.specs.Block.{sumFrom}
 use Rattle.model.specs.Sound.{weightOf}
 use Rattle.model.specs.Claim.{Each}
-use Rattle.laws.specs.Tally.{AtLeast, sumFrom-all, sumFrom-falls, heavy-sum}
-use Rattle.laws.specs.Chain.{Dyadic, Chain, chain-end, width-pos}
-use Rattle.laws.specs.Rise.{Rising, sumFrom-past}
-use Rattle.laws.specs.Step.{Follows, Tracks, unit-tracks, insert-tracks, empty-tracks}
-use Rattle.laws.specs.SoundFacts.{Chained, SoundBuckets, SoundLevel}
+use Rattle.laws.specs.SumFrom.{AtLeast, sumFrom-all, sumFrom-falls, heavy-sum}
+use Rattle.laws.specs.Add.{Dyadic, Chain, chain-end, width-pos}
+use Rattle.laws.specs.Put.{Rising, sumFrom-past}
+use Rattle.laws.specs.Unit.{Follows, Tracks, insert-tracks, empty-tracks}
+use Rattle.laws.specs.SoundLevel.{Chained, SoundBuckets, SoundLevel}
 
 -- ---- from soundness to counts
 
 module _ (k i count : ℕ) where
-  pub chained-above : (t start : ℕ) (bs : List Bucket) → t ≤ start → Chained k i count start bs → AtLeast t bs
+  chained-above : (t start : ℕ) (bs : List Bucket) → t ≤ start → Chained k i count start bs → AtLeast t bs
   chained-above t start [] h g = tt
   chained-above t start (b ∷ bs) h g =
       let at = g .0 .at in (omega arith, chained-above t (b .offset + b .width) bs (omega arith) (g .1))
@@ -75,7 +75,7 @@ sound-follows k n (suc j) first bs two full s =
     let chain = chained-chain k (suc j) (length bs) own first bs (many-or-whole k n (suc j) first bs two full (s .1)) (λ _ _. refl) (s .1) in
     (chain-inside (2 ^ suc j) k own first bs chain .0 (s .0), chain)
 
-pub sound-tracks : (k n i total : ℕ) (l : Level) → 2 ≤ n → SoundLevel k n i total l → Tracks k n i total (λ t. sumFrom t (l .buckets)) l
+sound-tracks : (k n i total : ℕ) (l : Level) → 2 ≤ n → SoundLevel k n i total l → Tracks k n i total (λ t. sumFrom t (l .buckets)) l
 sound-tracks k n i total l two s =
     let f = sound-follows k n i (l .first) (l .buckets) two (s .full) (s .parts) in
     record {
@@ -137,9 +137,6 @@ pub empty-sound : (k n i : ℕ) → 2 ≤ n → SoundLevel k n i 0 (emptyLevel k
 empty-sound k n i two = tracks-sound (empty-tracks k n i two)
 
 module _ (k n i : ℕ) (two : 2 ≤ n) where
-  pub unit-sound : (total x : ℕ) (l : Level) → x < 2 ^ k → SoundLevel k n i total l → SoundLevel k n i (suc total) (unit n i x l)
-  unit-sound total x l h s = tracks-sound (unit-tracks k n i two total (λ t. sumFrom t (l .buckets)) x l h (sound-tracks k n i total l two s))
-
   pub insert-sound : (total x v : ℕ) (l : Level) → x < 2 ^ k → SoundLevel k n i total l → SoundLevel k n i (total + v) (insert n i x v l)
   insert-sound total x v l h s = tracks-sound (insert-tracks k n i two total (λ t. sumFrom t (l .buckets)) x v l h (sound-tracks k n i total l two s))
 
@@ -158,7 +155,7 @@ module _ {k n i total : ℕ} {l : Level} (two : 2 ≤ n) where
       let size = ap (λ (z : ℕ). z * 2 ^ i) (t .full h) in
       omega (arith, heavy-sum (2 ^ i) (l .buckets) (follows-heavy k i c (l .first) (l .buckets) (omega (arith, t .full h)) (t .follows)))
 
-  pub sound-heavy : SoundLevel k n i total l → 0 < l .first → n * 2 ^ i ≤ total
+  sound-heavy : SoundLevel k n i total l → 0 < l .first → n * 2 ^ i ≤ total
   sound-heavy s h = omega (arith, tracks-heavy (sound-tracks k n i total l two s) h, s .within)
 
   -- so with a small total the level has evicted nothing

@@ -10,9 +10,9 @@ use lib.Pow.{pow-pos}
 use lib.ListN.{length}
 use Rattle.model.specs.Level.{Bucket, bucketOf, gained, add}
 use Rattle.model.specs.Sound.{weightOf}
-use Rattle.laws.specs.Cases.{Near}
-use Rattle.laws.specs.Buckets.{by-holds, by-split}
-use Rattle.laws.specs.Tally.{more, Falling, share-all, share-none, more-falls, AtLeast}
+use Rattle.laws.specs.Cond.{Near}
+use Rattle.laws.specs.Bucket.{by-holds, by-split}
+use Rattle.laws.specs.SumFrom.{more, Falling, share-all, share-none, more-falls, AtLeast}
 
 -- an interval of `width` ticks from a: 2 ^ k halved `depth` times
 pub record Dyadic (k a width : ℕ) : Type 0 where

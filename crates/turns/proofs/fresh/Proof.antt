@@ -3,8 +3,8 @@ use Prim.Native.Nat.{_^_, _<_}
 use native.Mathlib.Omega.{arith}
 use borrow.Author.Needs.{needs}
 use Rattle.pass_laws.specs.PassLaws.{less-is}
-use Rattle.turns.proofs.begin.Statement.{statement}
-use Rattle.turns.proofs.begin.Tie as tie
+use Rattle.turns.proofs.fresh.Statement.{statement}
+use Rattle.turns.proofs.fresh.Tie as tie
 
 wrapping-sub-u32-requires : tie.Need-wrapping-sub-u32-requires
 wrapping-sub-u32-requires c κs = search needs
@@ -15,5 +15,5 @@ returns c =
     let narrow : d .result < 2 ^ 32 = omega (arith, d .ok) in
     rw (less-is (d .result) _ narrow (d .ensures))
 
-pub begin-spec : {M : Type 1} → statement M
-begin-spec = tie.close (tie.spec wrapping-sub-u32-requires returns)
+pub fresh-spec : {M : Type 1} → statement M
+fresh-spec = tie.close (tie.spec wrapping-sub-u32-requires returns)

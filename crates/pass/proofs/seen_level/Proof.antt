@@ -9,8 +9,8 @@ use Rattle.model.specs.Words.{slots}
 use Rattle.laws.specs.LevelWords.{slots-none, slots-all, length-slots}
 use Rattle.pass_laws.specs.Pass.{unseen, seeOne, seeAll}
 use Rattle.words.specs.Slot.{front, front-slot, part-all, front-moved, slots-read}
-use Rattle.pass.proofs.see.Statement.{statement}
-use Rattle.pass.proofs.see.Tie as tie
+use Rattle.pass.proofs.seen_level.Statement.{statement}
+use Rattle.pass.proofs.seen_level.Tie as tie
 
 abbrev Inv-loop : tie.InvT-loop
 Inv-loop level count i low t₀ rest₀ at₀ t rest at =
@@ -20,14 +20,14 @@ Inv-loop level count i low t₀ rest₀ at₀ t rest at =
 abbrev μ-loop : tie.MeasureT-loop
 μ-loop level count i low t₀ rest₀ at₀ t rest at = count - at
 
-least-requires : tie.Need-least-requires Inv-loop μ-loop
-least-requires c κs = search needs
+least-of-requires : tie.Need-least-of-requires Inv-loop μ-loop
+least-of-requires c κs = search needs
 
-shared-slice-read-start : tie.Need-shared-slice-read-start Inv-loop μ-loop
-shared-slice-read-start c = search needs
+shared-slice-read-unseen : tie.Need-shared-slice-read-unseen Inv-loop μ-loop
+shared-slice-read-unseen c = search needs
 
-start-requires : tie.Need-start-requires Inv-loop μ-loop
-start-requires c κs = search needs
+unseen-requires : tie.Need-unseen-requires Inv-loop μ-loop
+unseen-requires c κs = search needs
 
 sub-rest : tie.Need-sub-rest Inv-loop μ-loop
 sub-rest c = search needs
@@ -40,7 +40,7 @@ part-rest-end c = search needs
 
 loop-holds : tie.Need-loop-holds Inv-loop μ-loop
 loop-holds c = let a = c .before .before .before .before .before .args in
-    rw (c .before .start .ensures, slots-all (a .level .now) (a .count)) (omega arith, omega arith, omega arith, part-all (a .level .now) 2, refl)
+    rw (c .before .unseen .ensures, slots-all (a .level .now) (a .count)) (omega arith, omega arith, omega arith, part-all (a .level .now) 2, refl)
 
 -- a slot is left at the front
 left : (c : tie.At-loop Inv-loop μ-loop) → c .loop .at < c .before .before .before .before .before .before .args .count → 3 ≤ length (c .loop .rest .now)
@@ -89,18 +89,18 @@ returns : tie.Need-returns Inv-loop μ-loop
 returns c =
     let l = c .before in
     let a = l .before .before .before .before .before .before .args in
-    rw (length-slots (a .level .now) 0 (a .count), ← l .before .before .before .before .least .ensures)
+    rw (length-slots (a .level .now) 0 (a .count), ← l .before .before .before .before .least-of .ensures)
     (rw (slots-none (a .level .now) (l .loop .at) (a .count) (omega arith)) at (l .loop .inv .4))
 
-pub see-spec : {M : Type 1} → statement M
-see-spec =
+pub seen-level-spec : {M : Type 1} → statement M
+seen-level-spec =
     tie.close
     (tie.spec
     Inv-loop
     μ-loop
-    least-requires
-    shared-slice-read-start
-    start-requires
+    least-of-requires
+    shared-slice-read-unseen
+    unseen-requires
     sub-rest
     part-rest-start
     part-rest-end

@@ -7,8 +7,8 @@ use lib.ListN.{length}
 use Rattle.model.specs.Level.{Bucket, put}
 use Rattle.model.specs.Block.{sumFrom}
 use Rattle.model.specs.Sound.{weightOf}
-use Rattle.laws.specs.Cases.{by-lt, by-eq}
-use Rattle.laws.specs.Tally.{share, share-suc, share-none, AtLeast}
+use Rattle.laws.specs.Cond.{by-lt, by-eq}
+use Rattle.laws.specs.SumFrom.{share, share-suc, share-none, AtLeast}
 
 -- a bucket of level 0, at offset a or above
 pub record Single (k a : ℕ) (b : Bucket) : Type 0 where

@@ -11,7 +11,7 @@ use Rattle.model.specs.Level.{Bucket}
 use Rattle.model.specs.Block.{sumFrom}
 use Rattle.model.specs.Sound.{weightOf}
 use Rattle.model.specs.Claim.{Each}
-use Rattle.laws.specs.Cases.{by-le}
+use Rattle.laws.specs.Cond.{by-le}
 
 -- how much of v at x lies at t or above: all or nothing
 abbrev pub share : ℕ → ℕ → ℕ → ℕ

@@ -12,8 +12,8 @@ use lib.ListN.{length, length-append}
 use Rattle.model.specs.Level.{Bucket, Level, bucketOf, levelOf, gained, put, holds, split, add, grow, firstAfter, evict, unit, insert}
 use Rattle.model.specs.LevelLaws.{unit-below}
 use Rattle.model.specs.Claim.{Each}
-use Rattle.laws.specs.Cases.{lt-or-ge}
-use Rattle.laws.specs.Buckets.{raised, halves, by-split}
+use Rattle.laws.specs.Cond.{lt-or-ge}
+use Rattle.laws.specs.Bucket.{raised, halves, by-split}
 
 -- no bucket of the list spans x
 abbrev pub Uncovered : ℕ → List Bucket → Type 0
@@ -49,7 +49,7 @@ pub evict-lowest : (n i f : ℕ) (b : Bucket) (bs : List Bucket) → length bs �
 evict-lowest n i f b bs h = rw (eq-eqb (suc (length bs)) (n + 1) (omega arith))
 
 -- one more bucket makes a list one longer
-pub one-longer : (before : List Bucket) (b : Bucket) (after : List Bucket) → length (before ++ b ∷ after) ≡ suc (length (before ++ after))
+one-longer : (before : List Bucket) (b : Bucket) (after : List Bucket) → length (before ++ b ∷ after) ≡ suc (length (before ++ after))
 one-longer before b after = simp length-append (omega arith)
 
 module _ (n i f x : ℕ) (kept : f ≤ x) (before after : List Bucket) where

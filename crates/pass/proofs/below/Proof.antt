@@ -1,8 +1,8 @@
 -- The two branches are the two cases of the test in the definition.
 use native.Mathlib.Omega.{arith}
 use borrow.Author.Tests.{lt-ltb, le-ltb}
-use Rattle.pass.proofs.under.Statement.{statement}
-use Rattle.pass.proofs.under.Tie as tie
+use Rattle.pass.proofs.below.Statement.{statement}
+use Rattle.pass.proofs.below.Tie as tie
 
 returns : tie.Need-returns
 returns c = (simp (lt-ltb _ _ (c .if1 .taken)), omega arith)
@@ -10,5 +10,5 @@ returns c = (simp (lt-ltb _ _ (c .if1 .taken)), omega arith)
 returns-2 : tie.Need-returns-2
 returns-2 c = (simp (le-ltb _ _ (c .if1 .left)), omega arith)
 
-pub under-spec : {M : Type 1} → statement M
-under-spec = tie.close (tie.spec returns returns-2)
+pub below-spec : {M : Type 1} → statement M
+below-spec = tie.close (tie.spec returns returns-2)

@@ -8,7 +8,7 @@ use borrow.Author.Tests.{ltb-true, leb-true, eqb-true, lt-ltb, le-leb, eq-eqb}
 use lib.Dec.{leb, ltb, eqb}
 use Rattle.shape.specs.LimitsLaws.{both}
 use Rattle.model.specs.Sound.{implies}
-use Rattle.laws.specs.Cases.{and-true}
+use Rattle.laws.specs.Cond.{and-true}
 
 -- the test b is true exactly if P holds
 abbrev pub Tests : Bool → Type 0 → Type 0
@@ -35,7 +35,7 @@ ltb-tests x y = (ltb-true x y, lt-ltb x y)
 pub eqb-tests : (x y : ℕ) → Tests (eqb x y) (x ≡ y)
 eqb-tests x y = (eqb-true x y, eq-eqb x y)
 
-pub never : {P : Type 0} → false ≡ true → P
+never : {P : Type 0} → false ≡ true → P
 never e = absurd (let z : _≡_ {A = ℕ} 0 1 = cc in omega arith)
 
 pub and-tests : {a b : Bool} {P Q : Type 0} → Tests a P → Tests b Q → Tests (a && b) (P × Q)

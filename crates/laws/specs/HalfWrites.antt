@@ -15,11 +15,11 @@ use Rattle.model.specs.Block.{Half, Block, interval, halfOf, withHalf, emptyHal
 use Rattle.model.specs.BlockLaws.{empties-same, empties-next, empties-other}
 use Rattle.model.specs.Words.{levelPart, decodeLevel, decodeHalf, decodeBlock, encodeLevel, encodeBlock}
 use Rattle.model.specs.Sound.{soundHalf}
-use Rattle.laws.specs.Cases.{lt-or-ge}
-use Rattle.laws.specs.SoundFacts.{SoundLevel, words-tests}
+use Rattle.laws.specs.Cond.{lt-or-ge}
+use Rattle.laws.specs.SoundLevel.{SoundLevel, words-tests}
 use Rattle.laws.specs.LevelWords.{length-encode}
 use Rattle.laws.specs.Parts.{place-next}
-use Rattle.laws.specs.Kept.{empty-sound}
+use Rattle.laws.specs.InsertSound.{empty-sound}
 use Rattle.laws.specs.BlockWords.{HalfSized, Placed, sound-sized, blockWords-halves, soundHalf-total, soundHalf-level, soundBlock-halves, soundBlock-decode, encode-decodeBlock, encodeBlock-even, encodeBlock-odd, encodeBlock-placed}
 use Rattle.laws.specs.BlockWrites.{withLevel, levelIndex, length-withLevel, levelPart-withLevel, levelPart-withLevel-other, getD-withLevel-total, levelPart-set-total}
 use Rattle.laws.specs.Proper.{Whole}
@@ -27,7 +27,7 @@ use Rattle.laws.specs.Proper.{Whole}
 -- ---- the halves of decoded words
 
 -- case distinction by parity
-pub by-parity : (j : ℕ) (P : ℕ → Type 0) → (j % 2 ≡ 0 → P 0) → (j % 2 ≡ 1 → P 1) → P (j % 2)
+by-parity : (j : ℕ) (P : ℕ → Type 0) → (j % 2 ≡ 0 → P 0) → (j % 2 ≡ 1 → P 1) → P (j % 2)
 by-parity j P even odd = go (j % 2) refl (omega arith)
   where
     go : (r : ℕ) → j % 2 ≡ r → r < 2 → P r
@@ -193,7 +193,7 @@ emptyWords s i = encodeLevel (s .n) (emptyLevel (s .k) i)
 unfoldable pub emptied : Shape → ℕ → List ℕ → List ℕ
 emptied s parity ws = withLevels s parity (emptyWords s) (suc (s .last)) (set ws parity 0)
 
-abbrev pub emptyBlock : Shape → Block
+abbrev emptyBlock : Shape → Block
 emptyBlock s = record { even = emptyHalf s; odd = emptyHalf s }
 
 module _ (s : Shape) (two : 2 ≤ s .n) where
@@ -242,7 +242,7 @@ module _ (s : Shape) (old new : ℕ) (b : Block) where
   advance-same e = rw (empties-same from to 0 e, empties-same from to 1 e)
 
   -- the half of the next interval if it enters that
-  pub advance-next : to ≡ from + 1 → advance s old new b ≡ withHalf to (emptyHalf s) b
+  advance-next : to ≡ from + 1 → advance s old new b ≡ withHalf to (emptyHalf s) b
   unfolding advance
   advance-next e =
       by-parity to (λ _. advance s old new b ≡ withHalf to (emptyHalf s) b)

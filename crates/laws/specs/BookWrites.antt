@@ -2,10 +2,10 @@
 use mathlib.Core.Path.{_≡_, sym, ap, _∙_}
 use mathlib.Core.List.{List, [], _∷_, _++_, append-assoc, append-nil}
 use Prim.Native.Nat.{ℕ, suc, _+_, _≤_, _<_}
-use native.Mathlib.Nat.{zero-add, suc-mul, mul-le-mul-right}
+use native.Mathlib.Nat.{zero-add, suc-mul}
 use native.Mathlib.Numerals.{add-one}
 use native.Mathlib.Omega.{arith}
-use lib.ListN.{length, take, drop, length-append, length-drop, take-append-drop, drop-of-length-le}
+use lib.ListN.{length, take, drop, length-append, take-append-drop, drop-of-length-le}
 use lib.Seq.{take-at, drop-at, drop-append-add, drop-drop, length-take-le}
 use Rattle.shape.specs.declared.Shape.{Shape}
 use Rattle.shape.specs.Layout.{headLen, blockWords, blockStart, bookWords}
@@ -46,14 +46,6 @@ module _ (s : Shape) (f : ℕ → List ℕ) (ws : List ℕ) (size : length ws �
     unfolding blockStart
     length-done =
         simp length-append (omega (arith, length-take-le headLen ws long, length-join f (blockWords s) 0 c (λ j l h. sized j (omega arith))))
-
-    start-fits : blockStart s c ≤ length ws
-    unfolding blockStart bookWords
-    start-fits = omega (arith, mul-le-mul-right (blockWords s) low)
-
-    pub length-swept : length (swept s f c ws) ≡ length ws
-    unfolding swept
-    length-swept = rw length-append (simp length-drop (omega (arith, length-done, start-fits)))
 
     -- block c has not changed yet
     pub swept-part : blockPart s c (swept s f c ws) ≡ blockPart s c ws

@@ -1,7 +1,7 @@
 -- The two branches are the two cases of the test in the definition.
 use borrow.Author.Tests.{eq-eqb, ne-eqb}
-use Rattle.pass.proofs.shared.Statement.{statement}
-use Rattle.pass.proofs.shared.Tie as tie
+use Rattle.pass.proofs.spread.Statement.{statement}
+use Rattle.pass.proofs.spread.Tie as tie
 
 returns : tie.Need-returns
 returns c = simp (eq-eqb _ _ (c .if1 .taken))
@@ -9,5 +9,5 @@ returns c = simp (eq-eqb _ _ (c .if1 .taken))
 returns-2 : tie.Need-returns-2
 returns-2 c = simp (ne-eqb _ _ (c .if1 .left))
 
-pub shared-spec : {M : Type 1} → statement M
-shared-spec = tie.close (tie.spec returns returns-2)
+pub spread-spec : {M : Type 1} → statement M
+spread-spec = tie.close (tie.spec returns returns-2)

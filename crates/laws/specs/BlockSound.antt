@@ -17,14 +17,14 @@ use Rattle.model.specs.Level.{Level, insert, emptyLevel}
 use Rattle.model.specs.Block.{Half, Block, upFrom, emptyHalf, insertAll, deliverHalf, deliver, halfOf, interval, offsetOf, advance, empties, serving, servingIndex}
 use Rattle.model.specs.Words.{encodeBlock}
 use Rattle.model.specs.Sound.{soundBlock}
-use Rattle.laws.specs.Cases.{by-test, by-le, lt-or-ge}
-use Rattle.laws.specs.SoundFacts.{SoundLevel, sound-tests}
-use Rattle.laws.specs.Kept.{empty-sound, insert-sound, sound-serves}
+use Rattle.laws.specs.Cond.{by-test, by-le, lt-or-ge}
+use Rattle.laws.specs.SoundLevel.{SoundLevel, sound-tests}
+use Rattle.laws.specs.InsertSound.{empty-sound, insert-sound, sound-serves}
 use Rattle.laws.specs.BlockWords.{HalfSound, sound-sized, length-encodeBlock, soundBlock-encode}
 use Rattle.laws.specs.Proper.{Proper}
 
 -- each level of a sound half, as facts
-pub half-level : (s : Shape) (h : Half) (y : HalfSound s h) (i : ℕ) → i ≤ s .last → SoundLevel (s .k) (s .n) i (h .total) (y .levelAt i)
+half-level : (s : Shape) (h : Half) (y : HalfSound s h) (i : ℕ) → i ≤ s .last → SoundLevel (s .k) (s .n) i (h .total) (y .levelAt i)
 half-level s h y i low = sound-tests (s .k) (s .n) i (h .total) (y .levelAt i) .0 (y .sound i low)
 
 -- a delivery into levels from i on is one into each
@@ -66,7 +66,7 @@ module _ (s : Shape) (proper : Proper s) where
   }
 
   -- a sound half stays sound after a delivery for which it has room
-  pub deliver-half : (h : Half) (x v : ℕ) → HalfSound s h → x < 2 ^ s .k → h .total + v ≤ 2 ^ s .m → HalfSound s (deliverHalf s x v h)
+  deliver-half : (h : Half) (x v : ℕ) → HalfSound s h → x < 2 ^ s .k → h .total + v ≤ 2 ^ s .m → HalfSound s (deliverHalf s x v h)
   unfolding deliverHalf
   deliver-half h x v y inside room = record {
     levelAt = λ i. insert (s .n) i x v (y .levelAt i);

@@ -6,7 +6,7 @@ use Prim.Native.Nat.{ℕ, suc, _+_, _/_, _^_, _≤_, _<_}
 use borrow.Author.Tests.{lt-ltb, le-ltb, le-leb}
 use lib.Dec.{T, leb, ltb, eqb, leb→le, ltb→lt, eqb→eq, le→leb, lt→ltb, eqb-refl}
 use Rattle.model.specs.Level.{Bucket, bucketOf, holds, split}
-use Rattle.laws.specs.Cases.{by-both, and-true, and-false}
+use Rattle.laws.specs.Cond.{by-both, and-true, and-false}
 
 -- the bucket with v more weight
 abbrev pub raised : ℕ → Bucket → Bucket

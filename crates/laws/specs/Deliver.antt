@@ -13,21 +13,21 @@ use Rattle.model.specs.Level.{Level, insert}
 use Rattle.model.specs.Block.{Half, interval, offsetOf, withHalf, deliverHalf, deliver}
 use Rattle.model.specs.Words.{levelPart, decodeLevel, decodeHalf, decodeBlock, encodeLevel, encodeBlock}
 use Rattle.laws.specs.LevelWords.{length-encode}
-use Rattle.laws.specs.Kept.{insert-sound}
+use Rattle.laws.specs.InsertSound.{insert-sound}
 use Rattle.laws.specs.BlockWords.{HalfSized, soundHalf-level, length-levelPart}
-use Rattle.laws.specs.Proper.{Open, Whole}
-use Rattle.laws.specs.BlockKept.{insertAll-upFrom}
-use Rattle.laws.specs.Halves.{Same, halfOf-decode, whole-half, whole-level, withLevels, length-written, levelPart-written-above, placed-written, same-written, encode-withHalf}
+use Rattle.laws.specs.Proper.{Insertable, Whole}
+use Rattle.laws.specs.BlockSound.{insertAll-upFrom}
+use Rattle.laws.specs.HalfWrites.{Same, halfOf-decode, whole-half, whole-level, withLevels, length-written, levelPart-written-above, placed-written, same-written, encode-withHalf}
 
 module _ (s : Shape) (stamp v : ℕ) (ws : List ℕ) where
-  abbrev pub parity : ℕ
+  abbrev parity : ℕ
   parity = interval s stamp % 2
 
   -- level i of the stamp's half after the delivery
-  abbrev pub levelAfter : ℕ → Level
+  abbrev levelAfter : ℕ → Level
   levelAfter i = insert (s .n) i (offsetOf s stamp) v (decodeLevel (levelPart s parity i ws))
 
-  abbrev pub wordsAfter : ℕ → List ℕ
+  abbrev wordsAfter : ℕ → List ℕ
   wordsAfter i = encodeLevel (s .n) (levelAfter i)
 
   -- the words after the total was raised and the levels below c were written
@@ -35,7 +35,7 @@ module _ (s : Shape) (stamp v : ℕ) (ws : List ℕ) where
   delivering c = withLevels s parity wordsAfter c (set ws parity (getD ws (totalStart parity) 0 + v))
 
   -- words with the delivery in them
-  pub record Delivered (new : List ℕ) : Type 0 where
+  record Delivered (new : List ℕ) : Type 0 where
     pub size : length new ≡ blockWords s
     pub total : getD new parity 0 ≡ getD ws (totalStart parity) 0 + v
     pub parts : (i : ℕ) → i ≤ s .last → levelPart s parity i new ≡ wordsAfter i
@@ -65,7 +65,7 @@ module _ (s : Shape) (stamp v : ℕ) (ws : List ℕ) where
     }
 
     -- they are the words of the delivered block
-    pub delivered-block : (new : List ℕ) → Delivered new → new ≡ encodeBlock s (deliver s stamp v (decodeBlock s ws))
+    delivered-block : (new : List ℕ) → Delivered new → new ≡ encodeBlock s (deliver s stamp v (decodeBlock s ws))
     unfolding deliver deliverHalf decodeHalf after-sized
     delivered-block new d =
         let j = interval s stamp in
@@ -86,8 +86,8 @@ module _ (s : Shape) (stamp v : ℕ) (ws : List ℕ) where
         levelPart-written-above s parity half wordsAfter after-words ws (w .size) (getD ws (totalStart parity) 0 + v) i (omega arith) i (omega arith)
 
     -- it can take the delivery if the half can
-    pub level-open : 0 < v → getD ws (totalStart parity) 0 + v ≤ 2 ^ s .m → (i : ℕ) → i ≤ s .last → Open s i (offsetOf s stamp) v (levelPart s parity i ws)
-    level-open some room i low = record {
+    pub level-insertable : 0 < v → getD ws (totalStart parity) 0 + v ≤ 2 ^ s .m → (i : ℕ) → i ≤ s .last → Insertable s i (offsetOf s stamp) v (levelPart s parity i ws)
+    level-insertable some room i low = record {
       total = getD ws (totalStart parity) 0;
       proper = w .proper;
       index = low;

@@ -24,7 +24,7 @@ unfoldable pub putSlot : List ℕ → ℕ → Bucket → List ℕ
 putSlot ws a b = set (set (set ws a (b .offset)) (a + 1) (b .width)) (a + 2) (b .weight)
 
 -- what the three stores leave
-pub putSlot-is : (ws : List ℕ) (a : ℕ) (b : Bucket) → a + slotLen ≤ length ws → putSlot ws a b ≡ take a ws ++ slotWords b ++ drop (a + slotLen) ws
+putSlot-is : (ws : List ℕ) (a : ℕ) (b : Bucket) → a + slotLen ≤ length ws → putSlot ws a b ≡ take a ws ++ slotWords b ++ drop (a + slotLen) ws
 unfolding putSlot
 putSlot-is ws a b h = rw (add-one a, add-two a) (sets-eq (slotWords b) ws a h)
 
@@ -41,13 +41,13 @@ unfolding lower
 lower-none ws a = paste-zero ws a (drop (a + slotLen) ws)
 
 -- the number of words stays
-pub length-lower : (ws : List ℕ) (a m : ℕ) → a + slotLen + m ≤ length ws → length (lower ws a m) ≡ length ws
+length-lower : (ws : List ℕ) (a m : ℕ) → a + slotLen + m ≤ length ws → length (lower ws a m) ≡ length ws
 unfolding lower
 length-lower ws a m h = length-paste ws a (drop (a + slotLen) ws) m (omega arith) (simp length-drop (omega arith))
 
 module _ (ws : List ℕ) (a i : ℕ) (h : a + slotLen + i < length ws) where
   -- the word to move has not changed yet
-  pub lower-read : getD (lower ws a i) (a + slotLen + i) 0 ≡ getD (drop (a + slotLen) ws) i 0
+  lower-read : getD (lower ws a i) (a + slotLen + i) 0 ≡ getD (drop (a + slotLen) ws) i 0
   unfolding lower
   lower-read =
       let moved : List ℕ = take a ws ++ take i (drop (a + slotLen) ws) in
@@ -78,7 +78,7 @@ unfolding raisedFrom
 raise-all ws a m = let e : m - 0 ≡ m = omega arith in rw (e, add-zero)
 
 -- the number of words stays
-pub length-raise : (ws : List ℕ) (a m : ℕ) → a + slotLen + m ≤ length ws → length (raise ws a m) ≡ length ws
+length-raise : (ws : List ℕ) (a m : ℕ) → a + slotLen + m ≤ length ws → length (raise ws a m) ≡ length ws
 unfolding raise
 length-raise ws a m h = length-paste ws (a + slotLen) (drop a ws) m h (simp length-drop (omega arith))
 
@@ -94,7 +94,7 @@ paste-back ws rest a m h =
 
 module _ (ws : List ℕ) (a m i : ℕ) (h : a + slotLen + m ≤ length ws) (l : i < m) where
   -- the word at a + i has not changed yet
-  pub raise-read : getD (raisedFrom ws a m (i + 1)) (a + i) 0 ≡ getD ws (a + i) 0
+  raise-read : getD (raisedFrom ws a m (i + 1)) (a + i) 0 ≡ getD ws (a + i) 0
   unfolding raisedFrom raise
   raise-read =
       let front : List ℕ = take (a + (i + 1) + slotLen) ws in

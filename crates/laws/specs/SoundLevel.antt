@@ -3,7 +3,7 @@ use mathlib.Core.Bool.{Bool, true, _&&_}
 use mathlib.Core.Logic.{inl, inr, ⊎-elim}
 use mathlib.Core.Path.{_≡_, refl, ap, _∙_, subst}
 use mathlib.Core.List.{List, [], _∷_}
-use Prim.Native.Nat.{ℕ, zero, suc, _+_, _-_, _*_, _/_, _%_, _^_, _≤_, _<_}
+use Prim.Native.Nat.{ℕ, zero, suc, _+_, _-_, _/_, _%_, _^_, _≤_, _<_}
 use native.Mathlib.Nat.{div-add-mod', mul-mod-left}
 use native.Mathlib.Omega.{arith}
 use lib.Dec.{leb, ltb, eqb}
@@ -11,12 +11,13 @@ use lib.ListN.{length, getD, drop}
 use Rattle.shape.specs.declared.Shape.{Shape}
 use Rattle.shape.specs.Layout.{slotStart}
 use Rattle.model.specs.Level.{Bucket, Level}
-use Rattle.model.specs.Words.{slots, decodeLevel}
+use Rattle.model.specs.Words.{decodeLevel}
 use Rattle.model.specs.Sound.{implies, zeros, weightOf, isPower, rising, soundBucket, chained, soundBuckets, soundLevel}
-use Rattle.laws.specs.Cases.{lt-or-ge}
-use Rattle.laws.specs.Reflect.{Tests, tests-same, leb-tests, ltb-tests, eqb-tests, and-tests, and-between, or-tests, implies-tests}
-use Rattle.laws.specs.Chain.{Dyadic}
-use Rattle.laws.specs.Rise.{Rising}
+use Rattle.laws.specs.Cond.{lt-or-ge}
+use Rattle.laws.specs.Tests.{Tests, tests-same, leb-tests, ltb-tests, eqb-tests, and-tests, and-between, or-tests, implies-tests}
+use Rattle.laws.specs.Add.{Dyadic}
+use Rattle.laws.specs.Put.{Rising}
+use Rattle.laws.specs.LevelWords.{length-slots}
 
 -- a bucket of level i from 1 on, one of `count`, which starts at `start`
 pub record SoundBucket (k i count start : ℕ) (b : Bucket) : Type 0 where
@@ -50,7 +51,7 @@ restTests k n i total count l =
     leb (weightOf bs) total && (implies (eqb first 0) (eqb (weightOf bs) total)
     && (implies (ltb 0 first) (eqb count n) && soundBuckets k i first bs))
 
-abbrev pub soundTests : ℕ → ℕ → ℕ → ℕ → Level → Bool
+abbrev soundTests : ℕ → ℕ → ℕ → ℕ → Level → Bool
 soundTests k n i total l = let count = length (l .buckets) in leb count n && restTests k n i total count l
 
 -- ---- a width is a power of 2, and its offset a multiple of it
@@ -130,10 +131,6 @@ sound-tests k n i total l =
 
 -- ---- the words of a level
 
-pub slots-length : (ws : List ℕ) (j c : ℕ) → length (slots ws j c) ≡ c
-slots-length ws j zero = refl
-slots-length ws j (suc c) = ap suc (slots-length ws (j + 1) c)
-
 -- words are sound exactly if their unused slots are zero and they stand for a sound level
 pub words-tests : (s : Shape) (i total : ℕ) (ws : List ℕ)
     → Tests (soundLevel s i total ws) ((zeros (drop (slotStart (getD ws 0 0)) ws) ≡ true) × SoundLevel (s .k) (s .n) i total (decodeLevel ws))
@@ -143,4 +140,4 @@ words-tests s i total ws =
     let count = getD ws 0 0 in
     and-between (leb count (s .n)) (zeros (drop (slotStart count) ws)) (restTests (s .k) (s .n) i total count l)
     (subst (λ (c : ℕ). Tests (leb c (s .n) && restTests (s .k) (s .n) i total c l) (SoundLevel (s .k) (s .n) i total l))
-    (slots-length ws 0 count) (sound-tests (s .k) (s .n) i total l))
+    (length-slots ws 0 count) (sound-tests (s .k) (s .n) i total l))

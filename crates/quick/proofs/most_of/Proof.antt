@@ -5,8 +5,8 @@ use native.Mathlib.Omega.{arith}
 use lib.Pow.{pow-pos, pow-mono}
 use borrow.Author.Tests.{le-leb, lt-leb}
 use borrow.Author.Needs.{needs}
-use Rattle.quick.proofs.most.Statement.{statement}
-use Rattle.quick.proofs.most.Tie as tie
+use Rattle.quick.proofs.most_of.Statement.{statement}
+use Rattle.quick.proofs.most_of.Tie as tie
 
 power-requires : tie.Need-power-requires
 power-requires c κs = search needs
@@ -32,7 +32,7 @@ returns-2 c =
     let double : 2 * c .power2 .result - 1 ≡ 2 ^ suc i - 1 = omega (arith, c .power2 .ensures) in
     rw (lt-leb _ _ (c .before .if1 .left)) double
 
-pub most-spec : {M : Type 1} → statement M
-most-spec =
+pub most-of-spec : {M : Type 1} → statement M
+most-of-spec =
     tie.close
     (tie.spec power-requires sub-result power-requires-2 mul-result sub-result-2 returns returns-2)

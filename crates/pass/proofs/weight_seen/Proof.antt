@@ -1,8 +1,8 @@
 -- The code computes the definition, and its sums fit 64 bits.
 use borrow.Author.Needs.{needs}
 use Rattle.pass_laws.specs.Pass.{weightSeen}
-use Rattle.pass.proofs.weight.Statement.{statement}
-use Rattle.pass.proofs.weight.Tie as tie
+use Rattle.pass.proofs.weight_seen.Statement.{statement}
+use Rattle.pass.proofs.weight_seen.Tie as tie
 
 long-requires : tie.Need-long-requires
 long-requires c κs = search needs
@@ -26,7 +26,7 @@ returns : tie.Need-returns
 unfolding weightSeen
 returns c = rw (c .long2 .ensures .0, c .before .long .ensures .0)
 
-pub weight-spec : {M : Type 1} → statement M
-weight-spec =
+pub weight-seen-spec : {M : Type 1} → statement M
+weight-seen-spec =
     tie.close
     (tie.spec long-requires mul-high long-requires-2 sub-result add-result add-result-2 returns)

@@ -121,7 +121,7 @@ fn measured(asked: Vec<(String, &'static str, Vec<Asked>)>, rounds: usize) -> Ve
 }
 
 fn described(shape: Shape, book: &[u32]) -> String {
-    let [k, n, m, g] = [shape.k(), shape.n(), shape.m(), shape.g()];
+    let [k, n, m, g] = shape.numbers();
     let words = thousands(shape.block_length());
     let filled = filled(shape, book);
     format!("({k}, {n}, {m}, {g}): {words} words in a block, {filled}")

@@ -50,7 +50,7 @@ impl Caller<'_> {
 
     fn make(&mut self) -> Call {
         let shape = self.shape;
-        let mut numbers = [shape.k(), shape.n(), shape.m(), shape.g()];
+        let mut numbers = shape.numbers();
         let place = self.random.below(4) as usize;
         match self.random.below(6) {
             0 => numbers[0] = self.random.between(Shape::K_MIN, Shape::K_MAX),

@@ -1,5 +1,6 @@
 //! Damage to a book: words that no call wrote. Some of it leaves the book sound.
 
+use reference::layout;
 use reference::random::Random;
 use reference::shape::Shape;
 use reference::words::{encode_block, encode_head};
@@ -66,7 +67,7 @@ fn any_word(random: &mut Random, _: Shape, words: &mut [u32]) {
 }
 
 fn head_word(random: &mut Random, shape: Shape, words: &mut [u32]) {
-    let place = random.below(Shape::HEAD_WORDS as u64) as usize;
+    let place = random.below(layout::HEAD_WORDS as u64) as usize;
     let edges = [
         [Shape::K_MIN - 1, Shape::K_MAX + 1],
         [Shape::N_MIN - 1, Shape::N_MAX + 1],
@@ -126,13 +127,13 @@ fn copied_slot(random: &mut Random, shape: Shape, words: &mut [u32]) {
     let (from, to) = (Place::draw(random, shape), Place::draw(random, shape));
     let to = if random.one_in(2) { from } else { to };
     let (from, to) = (from.any_slot(random, words), to.any_slot(random, words));
-    words.copy_within(from..from + Shape::SLOT_WORDS, to);
+    words.copy_within(from..from + layout::SLOT_WORDS, to);
 }
 
 fn swapped_slots(random: &mut Random, shape: Shape, words: &mut [u32]) {
     let place = Place::draw(random, shape);
     if let Some((low, high)) = place.neighbours(random, words) {
-        for field in 0..Shape::SLOT_WORDS {
+        for field in 0..layout::SLOT_WORDS {
             words.swap(low + field, high + field);
         }
     }

@@ -1,5 +1,6 @@
 //! Where the words of a book stand that damage and calls aim at.
 
+use reference::layout;
 use reference::random::Random;
 use reference::shape::Shape;
 
@@ -52,7 +53,7 @@ impl Place {
 
     /// The word of a slot's offset; length and weight are the next two.
     pub fn slot(self, slot: usize) -> usize {
-        self.count + Shape::LEVEL_HEAD_WORDS + Shape::SLOT_WORDS * slot
+        self.count + layout::LEVEL_HEAD_WORDS + layout::SLOT_WORDS * slot
     }
 
     /// How many slots the count calls buckets.

@@ -3,6 +3,7 @@
 use std::fmt::{self, Display, Formatter};
 
 use reference::calls::Call;
+use reference::layout;
 use reference::random::Random;
 use reference::shape::Shape;
 
@@ -36,7 +37,7 @@ impl Display for Failure {
     fn fmt(&self, f: &mut Formatter<'_>) -> fmt::Result {
         let (seed, book, call) = (self.seed, self.book, self.call);
         let shape = self.shape;
-        let numbers = [shape.k(), shape.n(), shape.m(), shape.g()];
+        let numbers = shape.numbers();
         let kind = match self.kind {
             Kind::Grown => "grown",
             Kind::Built => "built",
@@ -134,7 +135,7 @@ fn lent_words(random: &mut Random, call: Call, exact: usize) -> usize {
         3 => exact - 3,
         4 => exact + 1,
         5 => exact + random.below(TAIL as u64 + 1) as usize,
-        6 => exact - Shape::HEAD_WORDS,
+        6 => exact - layout::HEAD_WORDS,
         _ => random.below(exact as u64) as usize,
     }
 }

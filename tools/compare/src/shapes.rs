@@ -64,7 +64,7 @@ pub fn refused(random: &mut Random) -> Numbers {
 }
 
 fn numbers(shape: Shape) -> Numbers {
-    [shape.k(), shape.n(), shape.m(), shape.g()]
+    shape.numbers()
 }
 
 /// Random numbers within the limits whose book always fits.

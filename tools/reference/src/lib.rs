@@ -9,6 +9,7 @@
 
 pub mod calls;
 pub mod histogram;
+pub mod layout;
 pub mod ledger;
 pub mod protocol;
 pub mod random;

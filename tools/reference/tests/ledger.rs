@@ -181,7 +181,7 @@ impl Run {
 }
 
 fn make(shape: Shape) -> Call {
-    let [k, n, m, g] = [shape.k(), shape.n(), shape.m(), shape.g()];
+    let [k, n, m, g] = shape.numbers();
     Call::Make { k, n, m, g }
 }
 

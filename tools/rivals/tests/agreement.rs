@@ -47,7 +47,7 @@ fn source(seed: u64, shape: Shape, usual_volume: u64) -> Source {
 }
 
 fn made(shape: Shape) -> Vec<u32> {
-    let [k, n, m, g] = [shape.k(), shape.n(), shape.m(), shape.g()];
+    let [k, n, m, g] = shape.numbers();
     let mut words = vec![!0; shape.book_length()];
     agree(&mut words, Call::Make { k, n, m, g }).unwrap();
     words
@@ -394,7 +394,7 @@ fn slices_of_any_length() {
             for asked in [0, 1, 2].map(|_| source.call(shape, 7)) {
                 let _ = agree(&mut words, asked);
             }
-            let [k, n, m, g] = [shape.k(), shape.n(), shape.m(), shape.g()];
+            let [k, n, m, g] = shape.numbers();
             let _ = agree(&mut words, Call::Make { k, n, m, g });
         }
     }

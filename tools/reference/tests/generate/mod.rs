@@ -34,7 +34,7 @@ impl Source {
     fn make(&mut self) -> Call {
         let random = &mut self.random;
         let shape = random.pick(&self.shapes);
-        let [k, n, m, g] = [shape.k(), shape.n(), shape.m(), shape.g()];
+        let [k, n, m, g] = shape.numbers();
         match random.below(8) {
             0 => random.pick(&[
                 Call::Make { k: 1, n, m, g },

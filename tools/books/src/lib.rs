@@ -7,9 +7,9 @@
 
 pub mod book;
 pub mod calls;
+pub mod command;
 pub mod damage;
 pub mod implementation;
-pub mod options;
 pub mod pair;
 pub mod places;
 pub mod run;

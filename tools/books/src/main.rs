@@ -1,22 +1,16 @@
 //! Compares the static library with the second program on books of every kind.
 
-use std::env;
 use std::process::ExitCode;
 
+use books::command::{Options, USAGE};
 use books::implementation::Archive;
-use books::options::{Options, USAGE};
 use books::run::run;
 
-const USAGE_ERROR: u8 = 2;
-
 fn main() -> ExitCode {
-    let options = match Options::parse(env::args().skip(1)) {
-        Ok(options) => options,
-        Err(trouble) => {
-            eprintln!("{trouble}\n\n{USAGE}");
-            return ExitCode::from(USAGE_ERROR);
-        }
-    };
+    options::main(USAGE, Options::read, compare)
+}
+
+fn compare(options: Options) -> ExitCode {
     let tally = match run(&Archive, options.seed, options.numbers()) {
         Ok(tally) => tally,
         Err(failure) => {

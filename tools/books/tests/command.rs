@@ -1,13 +1,14 @@
 //! The command line, a run through the archive, and what a failed run reports.
 
+use books::command::Options;
 use books::implementation::Archive;
-use books::options::Options;
 use books::pair::{Difference, WordDifference};
 use books::run::run;
+use options::Words;
 use reference::calls::Call;
 
 fn parse(arguments: &[&str]) -> Result<Options, String> {
-    Options::parse(arguments.iter().map(|argument| argument.to_string()))
+    Options::read(Words::new(arguments))
 }
 
 #[test]

@@ -5,9 +5,9 @@
 #![warn(missing_docs)]
 
 pub mod calls;
+pub mod command;
 pub mod difference;
 pub mod hostile;
-pub mod options;
 pub mod pace;
 pub mod plan;
 pub mod program;

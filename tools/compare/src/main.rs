@@ -5,20 +5,15 @@ use std::path::PathBuf;
 use std::process::{self, ExitCode};
 use std::{env, fs};
 
-use compare::options::{Options, USAGE};
+use compare::command::{Options, USAGE};
 use compare::program::program_output;
 use compare::run::{reference_output, run, Failure, Summary};
 
-const USAGE_ERROR: u8 = 2;
-
 fn main() -> ExitCode {
-    let options = match Options::parse(env::args_os().skip(1)) {
-        Ok(options) => options,
-        Err(trouble) => {
-            eprintln!("{trouble}\n\n{USAGE}");
-            return ExitCode::from(USAGE_ERROR);
-        }
-    };
+    options::main(USAGE, Options::read, compare)
+}
+
+fn compare(options: Options) -> ExitCode {
     let program = |script: &[u8]| program_output(&options.program, script);
     match run(options.plan(), reference_output, program) {
         Ok(summary) => report_summary(&options, &summary),

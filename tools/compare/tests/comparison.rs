@@ -1,7 +1,7 @@
 //! The comparison: equal sides pass, and a side that is wrong in one small way is caught.
 
+use compare::command::Options;
 use compare::difference::{content, first_difference, lines, Difference};
-use compare::options::Options;
 use compare::plan::Plan;
 use compare::run::{reference_output, run, Failure};
 use compare::tally::Tally;

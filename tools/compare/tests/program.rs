@@ -4,11 +4,12 @@ use std::ffi::OsStr;
 use std::fs;
 use std::process::{Command, Output};
 
-use compare::options::Options;
+use compare::command::Options;
 use compare::program::program_output;
+use options::Words;
 
 fn parse(arguments: &[&str]) -> Result<Options, String> {
-    Options::parse(arguments.iter().map(|argument| argument.into()))
+    Options::read(Words::new(arguments))
 }
 
 #[test]

@@ -1,7 +1,7 @@
 //! What the scripts of the usual run contain: lines, lengths and ends.
 
+use compare::command::Options;
 use compare::difference::{content, lines};
-use compare::options::Options;
 use compare::plan::Plan;
 use compare::script::script;
 use compare::shapes;

@@ -1,25 +1,28 @@
 //! Writes the picture of the observed errors and prints the greatest of each order.
 
+use std::ffi::OsString;
+use std::fs;
 use std::process::ExitCode;
-use std::{env, fs};
 
 use errors::observe::{observe, Observed};
 use errors::order::Order;
 use errors::picture::svg;
 use errors::{forecourt, hostile, table};
 
-const USAGE: &str = "usage: errors PICTURE.svg";
-const USAGE_ERROR: u8 = 2;
+const USAGE: &str = "\
+usage: errors PICTURE
+
+Feeds books of the site shape in several orders, compares their answers with the exact ledger's,
+prints a table and writes a picture of the errors, as SVG.";
 
 fn main() -> ExitCode {
-    let arguments: Vec<_> = env::args_os().skip(1).collect();
-    let [path] = arguments.as_slice() else {
-        eprintln!("{USAGE}");
-        return ExitCode::from(USAGE_ERROR);
-    };
+    options::main(USAGE, |words| words.operands(["PICTURE"]), draw)
+}
+
+fn draw([path]: [OsString; 1]) -> ExitCode {
     let drawn = run().and_then(|observed| {
-        let written = fs::write(path, svg(&observed));
-        written.map_err(|error| format!("{}: {error}", path.to_string_lossy()))
+        let written = fs::write(&path, svg(&observed));
+        written.map_err(|error| format!("{}: {error}", path.display()))
     });
     match drawn {
         Ok(()) => ExitCode::SUCCESS,

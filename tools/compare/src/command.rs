@@ -2,6 +2,8 @@
 
 use std::ffi::OsString;
 
+use options::Words;
+
 use crate::plan::Plan;
 
 /// How the program is called.
@@ -45,25 +47,13 @@ impl Options {
         Plan::new(self.seed, self.lines, self.scripts)
     }
 
-    /// Reads the arguments after the program's own name; the error says what is wrong with them.
-    pub fn parse(arguments: impl IntoIterator<Item = OsString>) -> Result<Options, String> {
-        let mut arguments = arguments.into_iter();
-        let (mut program, mut seed, mut lines, mut scripts) = (None, None, None, None);
-        while let Some(argument) = arguments.next() {
-            let option = match argument.to_str() {
-                Some("--seed") => &mut seed,
-                Some("--lines") => &mut lines,
-                Some("--scripts") => &mut scripts,
-                Some(other) if other.starts_with("--") => return Err(format!("unknown: {other}")),
-                _ if program.is_some() => return Err("more than one program".to_string()),
-                _ => {
-                    program = Some(argument);
-                    continue;
-                }
-            };
-            *option = Some(number(&argument, arguments.next())?);
-        }
-        let usual = Options::usual(program.ok_or("no program")?);
+    /// Reads a command line; the error says what is wrong with it.
+    pub fn read(mut words: Words) -> Result<Options, String> {
+        let seed = words.number("--seed")?;
+        let lines = words.number("--lines")?;
+        let scripts = words.number("--scripts")?;
+        let [program] = words.operands(["PROGRAM"])?;
+        let usual = Options::usual(program);
         let lines = lines.unwrap_or(usual.lines);
         let scripts = scripts.unwrap_or((lines / LINES_PER_SCRIPT).max(1));
         if scripts == 0 {
@@ -76,9 +66,4 @@ impl Options {
             ..usual
         })
     }
-}
-
-fn number(option: &OsString, value: Option<OsString>) -> Result<u64, String> {
-    let number = value.as_ref().and_then(|text| text.to_str()?.parse().ok());
-    number.ok_or_else(|| format!("{} needs a number", option.to_string_lossy()))
 }

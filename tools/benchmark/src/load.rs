@@ -1,8 +1,8 @@
 //! Books grown by a realistic load: deliveries mostly in order, some hours late, through one
 //! interval and three quarters of the next, so that the totals come near what an interval keeps.
 
+use draw::random::Random;
 use reference::layout;
-use reference::random::Random;
 use reference::shape::Shape;
 use rivals::{Calls, Fast};
 

@@ -2,30 +2,23 @@
 
 use std::process::ExitCode;
 
+use books::archive;
 use books::command::{Options, USAGE};
-use books::implementation::Archive;
 use books::run::run;
+use draw::tally::verdict;
 
 fn main() -> ExitCode {
     options::main(USAGE, Options::read, compare)
 }
 
 fn compare(options: Options) -> ExitCode {
-    let tally = match run(&Archive, options.seed, options.numbers()) {
-        Ok(tally) => tally,
+    let summary = match run(archive::perform, options.seed, options.numbers()) {
+        Ok(summary) => summary,
         Err(failure) => {
             eprintln!("{failure}");
             return ExitCode::FAILURE;
         }
     };
-    println!("seed {}: {tally}, all equal", options.seed);
-    let missing = tally.missing();
-    for number in &missing {
-        eprintln!("refused {number} never occurred");
-    }
-    if missing.is_empty() {
-        ExitCode::SUCCESS
-    } else {
-        ExitCode::FAILURE
-    }
+    println!("seed {}: {summary}", options.seed);
+    verdict(&summary.faults())
 }

@@ -8,6 +8,7 @@ use std::{env, fs};
 use compare::command::{Options, USAGE};
 use compare::program::program_output;
 use compare::run::{reference_output, run, Failure, Summary};
+use draw::tally::verdict;
 
 fn main() -> ExitCode {
     options::main(USAGE, Options::read, compare)
@@ -23,17 +24,9 @@ fn compare(options: Options) -> ExitCode {
 
 fn report_summary(options: &Options, summary: &Summary) -> ExitCode {
     let (seed, scripts, tally) = (options.seed, summary.scripts, &summary.tally);
-    let lines = tally.lines();
+    let lines = tally.total();
     println!("seed {seed}: {scripts} scripts, {lines} lines, all equal; {tally}");
-    let faults = tally.faults();
-    for fault in &faults {
-        eprintln!("{fault}");
-    }
-    if faults.is_empty() {
-        ExitCode::SUCCESS
-    } else {
-        ExitCode::FAILURE
-    }
+    verdict(&tally.faults())
 }
 
 fn report_failure(options: &Options, failure: &Failure) -> ExitCode {

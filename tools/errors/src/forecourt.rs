@@ -1,6 +1,6 @@
 //! Realistic orders: cars come in bursts at the hours of the day, reports mostly at once.
 
-use reference::random::Random;
+use draw::random::Random;
 
 use crate::observe::TICKS;
 use crate::order::{windows, Manner, Order, Step};

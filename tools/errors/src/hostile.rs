@@ -1,6 +1,6 @@
 //! Hostile orders: what a clock and its reports would not do by themselves.
 
-use reference::random::Random;
+use draw::random::Random;
 
 use crate::observe::{CAPACITY, TICKS};
 use crate::order::{windows, Manner, Order, Step};

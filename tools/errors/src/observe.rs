@@ -1,13 +1,12 @@
 //! Runs an order through the static library and the exact ledger.
 
+pub use draw::shapes::SITE;
 use reference::calls::{Answer, Call};
 use reference::ledger::Ledger;
 use reference::shape::Shape;
 
 use crate::order::{Order, Step};
 
-/// The site shape: k, n, M, g.
-pub const SITE: [u32; 4] = [20, 441, 24, 1];
 /// Ticks of an interval.
 pub const TICKS: u32 = 1 << SITE[0];
 /// Decilitres that an interval keeps.

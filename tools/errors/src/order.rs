@@ -1,6 +1,6 @@
 //! An arrival order: what is told to a book, and when it is asked.
 
-use reference::random::Random;
+use draw::random::Random;
 
 use crate::observe::TICKS;
 

@@ -1,10 +1,10 @@
 //! The observations, the orders and the picture.
 
+use draw::random::Random;
 use errors::observe::{observe, Observation, Observed, BOUND, TICKS};
 use errors::order::{windows, Manner, Order, Step};
 use errors::picture::svg;
 use errors::{forecourt, hostile, table};
-use reference::random::Random;
 
 fn observation(truth: u64, answer: u64) -> Observation {
     Observation {

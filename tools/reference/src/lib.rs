@@ -12,7 +12,6 @@ pub mod histogram;
 pub mod layout;
 pub mod ledger;
 pub mod protocol;
-pub mod random;
 pub mod refusal;
 pub mod shape;
 pub mod soundness;

@@ -8,6 +8,9 @@ use crate::shape::Shape;
 /// Words of the program's buffer.
 pub const BUFFER_WORDS: usize = 14_836;
 
+/// The output line for an input line that is no call.
+pub const UNREAD: &str = "unread";
+
 /// The buffer and the shape of the last accepted make.
 pub struct Bench {
     buffer: Vec<u32>,
@@ -39,13 +42,9 @@ impl Bench {
 
     /// The output line for one input line, both without their newlines.
     pub fn line(&mut self, line: &[u8]) -> String {
-        let Some(call) = parse(line) else {
-            return "unread".to_string();
-        };
-        match self.perform(call) {
-            Ok(Answer::Done) => "ok".to_string(),
-            Ok(Answer::Sum(sum)) => format!("= {sum}"),
-            Err(number) => format!("refused {number}"),
+        match parse(line) {
+            Some(call) => answer(self.perform(call)),
+            None => UNREAD.to_string(),
         }
     }
 }
@@ -66,6 +65,29 @@ pub fn run(mut input: impl BufRead, mut output: impl Write) -> io::Result<()> {
         line.clear();
     }
     output.flush()
+}
+
+/// The output line for the answer of a call.
+pub fn answer(reply: Result<Answer, u32>) -> String {
+    match reply {
+        Ok(Answer::Done) => "ok".to_string(),
+        Ok(Answer::Sum(sum)) => format!("= {sum}"),
+        Err(number) => format!("refused {number}"),
+    }
+}
+
+/// The line of a call without its newline.
+pub fn line(call: Call) -> String {
+    match call {
+        Call::Make { k, n, m, g } => format!("m {k} {n} {m} {g}"),
+        Call::Clock { clock } => format!("c {clock}"),
+        Call::Delivery {
+            grade,
+            stamp,
+            volume,
+        } => format!("d {grade} {stamp} {volume}"),
+        Call::Query { grade, window } => format!("q {grade} {window}"),
+    }
 }
 
 /// The call of a line without its newline, or nothing where it does not read as one.

@@ -131,7 +131,7 @@ pub fn encode_block(shape: Shape, block: &[Histogram; 2], words: &mut [u32]) {
 }
 
 /// The number of one or two words, the low one first.
-fn number(words: &[u32]) -> u64 {
+pub fn number(words: &[u32]) -> u64 {
     let high_first = words.iter().rev();
     high_first.fold(0, |number, word| number << 32 | u64::from(*word))
 }

@@ -2,6 +2,7 @@
 
 use crate::insertion;
 use crate::level::{half, Level};
+use reference::calls::{Answer, Call};
 use reference::layout;
 use reference::refusal::{self, when};
 use reference::shape::Shape;
@@ -11,6 +12,21 @@ use reference::shape::Shape;
 pub trait Calls {
     /// Whether these words, as many as a block has, are a sound block.
     fn is_sound(shape: Shape, block: &[u32]) -> bool;
+
+    /// Any of the calls.
+    fn perform(book: &mut [u32], call: Call) -> Result<Answer, u32> {
+        let done = |()| Answer::Done;
+        match call {
+            Call::Make { k, n, m, g } => Self::make(book, k, n, m, g).map(done),
+            Call::Clock { clock } => Self::clock(book, clock).map(done),
+            Call::Delivery {
+                grade,
+                stamp,
+                volume,
+            } => Self::delivery(book, grade, stamp, volume).map(done),
+            Call::Query { grade, window } => Self::query(book, grade, window).map(Answer::Sum),
+        }
+    }
 
     /// Writes an empty book, whatever the words were.
     fn make(book: &mut [u32], k: u32, n: u32, m: u32, g: u32) -> Result<(), u32> {

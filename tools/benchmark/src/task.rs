@@ -3,8 +3,6 @@
 use std::hint::black_box;
 use std::ops::Range;
 
-use draw::calls::call_of;
-use reference::calls::Call;
 use reference::shape::Shape;
 
 use crate::candidate::Candidate;
@@ -64,6 +62,15 @@ impl Kind {
     }
 }
 
+/// One call with its numbers.
+#[derive(Clone, Copy)]
+enum Call {
+    Make([u32; 4]),
+    Clock(u32),
+    Delivery(u32, u32, u32),
+    Query(u32, u32),
+}
+
 /// A batch of calls of one kind; every candidate gets the same.
 pub struct Batch {
     calls: Vec<Call>,
@@ -76,23 +83,15 @@ impl Batch {
         let ticks = shape.interval_ticks() as u32;
         let one = |number: u32| {
             let grade = number % shape.g();
-            let query = |window| Call::Query { grade, window };
             match kind {
-                Kind::Unit | Kind::Delivery => Call::Delivery {
-                    grade,
-                    stamp: load.stamp(clock),
-                    volume: if kind == Kind::Unit { 1 } else { load.volume() },
-                },
-                Kind::ShortQuery => query(ticks / 256),
-                Kind::HalfQuery => query(ticks / 2),
-                Kind::FullQuery => query(ticks),
-                Kind::Clock => Call::Clock {
-                    clock: clock + number,
-                },
-                Kind::NextInterval => Call::Clock {
-                    clock: clock + ticks,
-                },
-                Kind::Make => call_of(shape.numbers()),
+                Kind::Unit => Call::Delivery(grade, load.stamp(clock), 1),
+                Kind::Delivery => Call::Delivery(grade, load.stamp(clock), load.volume()),
+                Kind::ShortQuery => Call::Query(grade, ticks / 256),
+                Kind::HalfQuery => Call::Query(grade, ticks / 2),
+                Kind::FullQuery => Call::Query(grade, ticks),
+                Kind::Clock => Call::Clock(clock + number),
+                Kind::NextInterval => Call::Clock(clock + ticks),
+                Kind::Make => Call::Make(shape.numbers()),
             }
         };
         let calls = if kind == Kind::NextInterval { 1 } else { calls };
@@ -113,14 +112,12 @@ impl Batch {
         for call in &self.calls {
             let book = black_box(&mut *book);
             match *black_box(call) {
-                Call::Make { k, n, m, g } => (candidate.make)(book, [k, n, m, g]).expect(accepted),
-                Call::Clock { clock } => (candidate.clock)(book, clock).expect(accepted),
-                Call::Delivery {
-                    grade,
-                    stamp,
-                    volume,
-                } => (candidate.delivery)(book, grade, stamp, volume).expect(accepted),
-                Call::Query { grade, window } => {
+                Call::Make(shape) => (candidate.make)(book, shape).expect(accepted),
+                Call::Clock(clock) => (candidate.clock)(book, clock).expect(accepted),
+                Call::Delivery(grade, stamp, volume) => {
+                    (candidate.delivery)(book, grade, stamp, volume).expect(accepted);
+                }
+                Call::Query(grade, window) => {
                     answers += (candidate.query)(book, grade, window).expect(accepted);
                 }
             }

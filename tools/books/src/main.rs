@@ -2,7 +2,6 @@
 
 use std::process::ExitCode;
 
-use books::archive;
 use books::command::{Options, USAGE};
 use books::run::run;
 use draw::tally::verdict;

@@ -3,11 +3,8 @@
 use std::fmt::{self, Display, Formatter};
 use std::ops::Range;
 
-use reference::calls::{self, Answer, Call};
+use reference::calls::{self, Call, Reply};
 use reference::protocol::answer;
-
-/// The answer of a call.
-pub type Reply = Result<Answer, u32>;
 
 /// Both sides' words, equal after each call.
 pub struct Pair {

@@ -8,10 +8,10 @@ use draw::pace::Pace;
 use draw::random::Random;
 use draw::shapes::Makes;
 use draw::view::Words;
-use reference::calls::Call;
+use reference::calls::{Call, Reply};
 use reference::shape::Shape;
 
-use crate::pair::{Difference, Pair, Reply};
+use crate::pair::{Difference, Pair};
 use crate::summary::Summary;
 
 /// Words past the longest exact book, for slices that are too long.

@@ -5,9 +5,8 @@ use std::fmt::{self, Display, Formatter};
 use draw::book::Kind;
 use draw::damage::KINDS;
 use draw::tally::Tally;
+use reference::calls::Reply;
 use reference::{protocol, refusal};
-
-use crate::pair::Reply;
 
 /// A run of so many books must show every kind of book, of damage and of answer.
 pub const BOOKS_FOR_ALL: u64 = 2_000;

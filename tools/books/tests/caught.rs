@@ -2,7 +2,7 @@
 
 mod wrong;
 
-use reference::calls::{perform, Answer, Call};
+use reference::calls::{perform, Answer, Call, Reply};
 use reference::layout;
 use reference::shape::Shape;
 use reference::soundness::{block_is_sound, sound_head, Fault};
@@ -151,7 +151,7 @@ fn starts_of_blocks_modulo_2_to_the_32() {
 }
 
 /// Answers the later refusal where it holds as well.
-fn reordered(first: u32, later: u32) -> impl Fn(&mut [u32], Call) -> Result<Answer, u32> {
+fn reordered(first: u32, later: u32) -> impl Fn(&mut [u32], Call) -> Reply {
     move |book, call| {
         let reply = perform(book, call);
         if reply != Err(first) {

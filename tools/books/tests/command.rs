@@ -1,6 +1,5 @@
 //! The command line, a run through the archive, and what a failed run reports.
 
-use books::archive;
 use books::command::Options;
 use books::pair::{Difference, WordDifference};
 use books::run::run;

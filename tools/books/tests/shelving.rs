@@ -2,8 +2,7 @@
 
 mod wrong;
 
-use books::pair::Reply;
-use reference::calls::{perform, Answer, Call};
+use reference::calls::{perform, Answer, Call, Reply};
 use reference::histogram::{Bucket, Histogram, Level};
 use reference::layout;
 use reference::shape::Shape;

@@ -95,7 +95,7 @@ fn refused_steps_are_reported() {
         books: vec![vec![Step::Clock(TICKS + 1), late]],
     };
     let trouble = observe(&order).err().expect("a refusal");
-    assert!(trouble.contains("Refused(9)"), "{trouble}");
+    assert!(trouble.contains("Err(9)"), "{trouble}");
 }
 
 fn seen(name: &'static str, manner: Manner) -> (Order, Observed) {

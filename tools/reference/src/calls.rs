@@ -55,8 +55,11 @@ pub enum Answer {
     Sum(u64),
 }
 
-/// Any call on these words; the error is the refusal number.
-pub fn perform(words: &mut [u32], call: Call) -> Result<Answer, u32> {
+/// The answer of a call, or the number of its refusal.
+pub type Reply = Result<Answer, u32>;
+
+/// Any call on these words.
+pub fn perform(words: &mut [u32], call: Call) -> Reply {
     match call {
         Call::Make { k, n, m, g } => make(words, k, n, m, g).map(|()| Answer::Done),
         Call::Clock { clock: new } => clock(words, new).map(|()| Answer::Done),

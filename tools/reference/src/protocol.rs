@@ -2,7 +2,7 @@
 
 use std::io::{self, BufRead, Write};
 
-use crate::calls::{perform, Answer, Call};
+use crate::calls::{perform, Answer, Call, Reply};
 use crate::shape::Shape;
 
 /// Words of the program's buffer.
@@ -27,7 +27,7 @@ impl Bench {
     }
 
     /// One call on as many words as it is given.
-    pub fn perform(&mut self, call: Call) -> Result<Answer, u32> {
+    pub fn perform(&mut self, call: Call) -> Reply {
         let asked = match call {
             Call::Make { k, n, m, g } => Shape::new(k, n, m, g),
             _ => self.shape,
@@ -68,7 +68,7 @@ pub fn run(mut input: impl BufRead, mut output: impl Write) -> io::Result<()> {
 }
 
 /// The output line for the answer of a call.
-pub fn answer(reply: Result<Answer, u32>) -> String {
+pub fn answer(reply: Reply) -> String {
     match reply {
         Ok(Answer::Done) => "ok".to_string(),
         Ok(Answer::Sum(sum)) => format!("= {sum}"),

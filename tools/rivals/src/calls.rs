@@ -2,7 +2,7 @@
 
 use crate::insertion;
 use crate::level::{half, Level};
-use reference::calls::{Answer, Call};
+use reference::calls::{Answer, Call, Reply};
 use reference::layout;
 use reference::refusal::{self, when};
 use reference::shape::Shape;
@@ -14,7 +14,7 @@ pub trait Calls {
     fn is_sound(shape: Shape, block: &[u32]) -> bool;
 
     /// Any of the calls.
-    fn perform(book: &mut [u32], call: Call) -> Result<Answer, u32> {
+    fn perform(book: &mut [u32], call: Call) -> Reply {
         let done = |()| Answer::Done;
         match call {
             Call::Make { k, n, m, g } => Self::make(book, k, n, m, g).map(done),

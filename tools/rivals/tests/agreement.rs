@@ -7,7 +7,7 @@ use draw::pace::Pace;
 use draw::random::Random;
 use draw::shapes::Makes;
 use draw::view::Words;
-use reference::calls::{perform, Answer, Call};
+use reference::calls::{perform, Call, Reply};
 use reference::layout::{COUNT, FIRST, HEAD_WORDS, LENGTH, LEVEL_HEAD_WORDS, SLOT_WORDS, WEIGHT};
 use reference::refusal;
 use reference::shape::Shape;
@@ -15,7 +15,7 @@ use reference::words::encode_head;
 use rivals::{Calls, Fast, Plain};
 
 /// One call by all three on copies of the words, which then become what it left.
-fn agree(words: &mut Vec<u32>, asked: Call) -> Result<Answer, u32> {
+fn agree(words: &mut Vec<u32>, asked: Call) -> Reply {
     let mut plain = words.clone();
     let mut fast = words.clone();
     let answer = perform(words, asked);

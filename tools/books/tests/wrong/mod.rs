@@ -1,9 +1,8 @@
 //! Wrong stand-ins: the second program with one thing changed.
 
-use books::pair::Reply;
 use books::run::{run, Failure};
 use books::summary::BOOKS_FOR_ALL;
-use reference::calls::{perform, Answer, Call};
+use reference::calls::{perform, Answer, Call, Reply};
 use reference::shape::Shape;
 use reference::soundness::{block_faults, sound_head, Fault};
 use reference::words::{decode_block, decode_head, RawHistogram};

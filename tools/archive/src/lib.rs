@@ -1,11 +1,12 @@
-//! The static library as one function over all calls, through its Rust wrapper.
+//! The static library under the second program's types: one function over all calls.
+
+#![forbid(unsafe_code)]
+#![warn(missing_docs)]
 
 use litres::Refused;
-use reference::calls::{Answer, Call};
+use reference::calls::{Answer, Call, Reply};
 
-use crate::pair::Reply;
-
-/// Performs any call; the error is the refusal's number.
+/// Performs any call through the Rust wrapper.
 pub fn perform(book: &mut [u32], call: Call) -> Reply {
     match call {
         Call::Make { k, n, m, g } => litres::make(book, k, n, m, g).map(done),

@@ -55,16 +55,17 @@ impl Default for Bench {
     }
 }
 
-/// Answers a whole input, line by line.
+/// Answers an input line by line, each answer as soon as its line has ended.
 pub fn run(mut input: impl BufRead, mut output: impl Write) -> io::Result<()> {
     let mut bench = Bench::new();
     let mut line = Vec::new();
     while input.read_until(b'\n', &mut line)? > 0 {
         let content = line.strip_suffix(b"\n").unwrap_or(&line);
         writeln!(output, "{}", bench.line(content))?;
+        output.flush()?;
         line.clear();
     }
-    output.flush()
+    Ok(())
 }
 
 /// The output line for the answer of a call.

@@ -29,7 +29,8 @@
  * In every call `book` points to `len` words. The caller must meet these conditions:
  *   - `book` is aligned for uint32_t and is not null, even where len is 0;
  *   - all len words may be read and, except in litres_query, written;
- *   - no other thread uses any of them during the call.
+ *   - no other thread writes any of them during the call, nor reads them unless both calls are
+ *     litres_query.
  * There are no further conditions: every length, all words and all numbers get an answer.
  *
  * Every call except litres_words returns 0 if it is accepted, else the number of a refusal. A

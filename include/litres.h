@@ -31,7 +31,7 @@
  *   - all len words may be read and, except in litres_query, written;
  *   - no other thread writes any of them during the call, nor reads them unless both calls are
  *     litres_query.
- * There are no further conditions: every length, all words and all numbers get an answer.
+ * There are no other conditions on it: every length, all words and all numbers get an answer.
  *
  * Every call except litres_words returns 0 if it is accepted, else the number of a refusal. A
  * refused call changes no word. If several refusals apply, the call returns the first one in the

@@ -1,4 +1,5 @@
-//! Writes the picture of the observed errors and prints the greatest of each order.
+//! Writes the picture of the observed errors, and prints the greatest of each order and how many
+//! answers were exact.
 
 use std::ffi::OsString;
 use std::fs;
@@ -7,7 +8,7 @@ use std::process::ExitCode;
 use errors::observe::{observe, Observed};
 use errors::order::Order;
 use errors::picture::svg;
-use errors::{forecourt, hostile, table};
+use errors::{forecourt, table, unusual};
 
 const USAGE: &str = "\
 usage: errors PICTURE
@@ -37,13 +38,13 @@ fn run() -> Result<Vec<(Order, Observed)>, String> {
     let orders = [
         forecourt::prompt(1),
         forecourt::hourly(2),
-        hostile::uniform(3),
-        hostile::reverse(4),
-        hostile::late(5),
-        hostile::inwards(6),
-        hostile::heavy_tick(7),
-        hostile::extremes(8),
-        hostile::aimed(9),
+        unusual::uniform(3),
+        unusual::reverse(4),
+        unusual::late(5),
+        unusual::inwards(6),
+        unusual::heavy_tick(7),
+        unusual::extremes(8),
+        unusual::aimed(9),
     ];
     println!("{}", table::head());
     let mut all = Vec::new();
@@ -56,5 +57,6 @@ fn run() -> Result<Vec<(Order, Observed)>, String> {
         }
         all.push((order, observed));
     }
+    println!("\n{}", table::shares(&all));
     Ok(all)
 }

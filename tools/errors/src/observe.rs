@@ -60,10 +60,9 @@ impl Observed {
         self.observations.iter().copied().max_by(by_error)
     }
 
-    /// How many answers were exact.
-    pub fn exact(&self) -> usize {
-        let exact = |o: &&Observation| o.truth == o.answer;
-        self.observations.iter().filter(exact).count()
+    /// The answers to windows that have a delivery. The others are 0, which says nothing.
+    pub fn telling(&self) -> impl Iterator<Item = &Observation> {
+        self.observations.iter().filter(|o| o.truth > 0)
     }
 }
 

@@ -1,5 +1,4 @@
-//! A small deterministic random generator for tests (splitmix64). It implements no part of document
-//! 01.
+//! A small deterministic random generator (splitmix64).
 
 /// A generator; equal seeds give equal draws.
 pub struct Random {

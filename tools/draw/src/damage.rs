@@ -1,24 +1,25 @@
 //! Damage to a book: words that no call wrote. Some of it leaves the book sound.
 
-use reference::random::Random;
+use reference::layout::{CLOCK, HEAD_WORDS, LENGTH, OFFSET, SLOT_WORDS, WEIGHT};
 use reference::shape::Shape;
 use reference::words::{encode_block, encode_head};
 
 use crate::places::Place;
+use crate::random::Random;
 use crate::{sound, wrapped};
 
 /// Changes some words of a book of this shape.
-type Change = fn(&mut Random, Shape, &mut [u32]);
+pub type Change = fn(&mut Random, Shape, &mut [u32]);
 
 /// Each kind of damage with its name.
-const KINDS: [(&str, Change); 19] = [
-    ("a word changed", any_word),
+pub const KINDS: [(&str, Change); 19] = [
+    ("a word changed", |r, _, w| any_word(r, w)),
     ("a head word changed", head_word),
     ("a count changed", count_word),
     ("an F changed", first_word),
-    ("an offset changed", |r, s, w| slot_word(r, s, w, 0)),
-    ("a length changed", |r, s, w| slot_word(r, s, w, 1)),
-    ("a weight changed", |r, s, w| slot_word(r, s, w, 2)),
+    ("an offset changed", |r, s, w| slot_word(r, s, w, OFFSET)),
+    ("a length changed", |r, s, w| slot_word(r, s, w, LENGTH)),
+    ("a weight changed", |r, s, w| slot_word(r, s, w, WEIGHT)),
     ("a total changed", total_word),
     ("a slot copied", copied_slot),
     ("two slots swapped", swapped_slots),
@@ -60,13 +61,14 @@ pub fn changed(random: &mut Random, word: u32) -> u32 {
     }
 }
 
-fn any_word(random: &mut Random, _: Shape, words: &mut [u32]) {
+/// Changes any word of some.
+pub fn any_word(random: &mut Random, words: &mut [u32]) {
     let place = random.below(words.len() as u64) as usize;
     words[place] = changed(random, words[place]);
 }
 
 fn head_word(random: &mut Random, shape: Shape, words: &mut [u32]) {
-    let place = random.below(Shape::HEAD_WORDS as u64) as usize;
+    let place = random.below(HEAD_WORDS as u64) as usize;
     let edges = [
         [Shape::K_MIN - 1, Shape::K_MAX + 1],
         [Shape::N_MIN - 1, Shape::N_MAX + 1],
@@ -81,7 +83,7 @@ fn head_word(random: &mut Random, shape: Shape, words: &mut [u32]) {
 }
 
 fn count_word(random: &mut Random, shape: Shape, words: &mut [u32]) {
-    let count = Place::draw(random, shape).count;
+    let count = Place::draw(random, shape).count();
     words[count] = match random.below(4) {
         0 => shape.n() + 1,
         1 => shape.n(),
@@ -92,7 +94,7 @@ fn count_word(random: &mut Random, shape: Shape, words: &mut [u32]) {
 fn first_word(random: &mut Random, shape: Shape, words: &mut [u32]) {
     let place = Place::draw(random, shape);
     let ticks = shape.interval_ticks() as u32;
-    let offset = words[place.any_slot(random, words)];
+    let offset = words[place.any_slot(random, words) + OFFSET];
     words[place.first()] = match random.below(6) {
         0 => ticks,
         1 => ticks - 1,
@@ -108,8 +110,8 @@ fn slot_word(random: &mut Random, shape: Shape, words: &mut [u32], field: usize)
     let limit = 1u32 << place.index;
     words[word] = match random.below(8) {
         0 => shape.interval_ticks() as u32,
-        1 if field == 2 => limit - 1,
-        2 if field == 2 => 2 * limit,
+        1 if field == WEIGHT => limit - 1,
+        2 if field == WEIGHT => 2 * limit,
         _ => changed(random, words[word]),
     };
 }
@@ -126,13 +128,13 @@ fn copied_slot(random: &mut Random, shape: Shape, words: &mut [u32]) {
     let (from, to) = (Place::draw(random, shape), Place::draw(random, shape));
     let to = if random.one_in(2) { from } else { to };
     let (from, to) = (from.any_slot(random, words), to.any_slot(random, words));
-    words.copy_within(from..from + Shape::SLOT_WORDS, to);
+    words.copy_within(from..from + SLOT_WORDS, to);
 }
 
 fn swapped_slots(random: &mut Random, shape: Shape, words: &mut [u32]) {
     let place = Place::draw(random, shape);
     if let Some((low, high)) = place.neighbours(random, words) {
-        for field in 0..Shape::SLOT_WORDS {
+        for field in 0..SLOT_WORDS {
             words.swap(low + field, high + field);
         }
     }
@@ -140,7 +142,7 @@ fn swapped_slots(random: &mut Random, shape: Shape, words: &mut [u32]) {
 
 fn copied_level(random: &mut Random, shape: Shape, words: &mut [u32]) {
     let (from, to) = (Place::draw(random, shape), Place::draw(random, shape));
-    words.copy_within(from.words(), to.count);
+    words.copy_within(from.words(), to.start);
 }
 
 fn copied_block(random: &mut Random, shape: Shape, words: &mut [u32]) {
@@ -159,23 +161,23 @@ fn copied_range(random: &mut Random, shape: Shape, words: &mut [u32]) {
 fn moved_boundary(random: &mut Random, shape: Shape, words: &mut [u32]) {
     let place = Place::draw(random, shape);
     if let Some((low, high)) = place.neighbours(random, words) {
-        let (short, long) = (words[low + 1], words[high + 1]);
+        let (short, long) = (words[low + LENGTH], words[high + LENGTH]);
         match random.below(3) {
             0 => {
-                words[low + 1] = short.wrapping_sub(1);
-                words[high] = words[high].wrapping_sub(1);
-                words[high + 1] = long.wrapping_add(1);
+                words[low + LENGTH] = short.wrapping_sub(1);
+                words[high + OFFSET] = words[high + OFFSET].wrapping_sub(1);
+                words[high + LENGTH] = long.wrapping_add(1);
             }
             1 => {
-                words[low + 1] = short.wrapping_add(1);
-                words[high] = words[high].wrapping_add(1);
-                words[high + 1] = long.wrapping_sub(1);
+                words[low + LENGTH] = short.wrapping_add(1);
+                words[high + OFFSET] = words[high + OFFSET].wrapping_add(1);
+                words[high + LENGTH] = long.wrapping_sub(1);
             }
             // The two lengths change places.
             _ => {
-                words[high] = words[low].wrapping_add(long);
-                words[low + 1] = long;
-                words[high + 1] = short;
+                words[high + OFFSET] = words[low + OFFSET].wrapping_add(long);
+                words[low + LENGTH] = long;
+                words[high + LENGTH] = short;
             }
         }
     }
@@ -185,7 +187,8 @@ fn moved_boundary(random: &mut Random, shape: Shape, words: &mut [u32]) {
 fn moved_weight(random: &mut Random, shape: Shape, words: &mut [u32]) {
     let place = Place::draw(random, shape);
     if let Some((low, high)) = place.neighbours(random, words) {
-        let (from, to) = random.pick(&[(low + 2, high + 2), (high + 2, low + 2)]);
+        let (low, high) = (low + WEIGHT, high + WEIGHT);
+        let (from, to) = random.pick(&[(low, high), (high, low)]);
         let spare = words[from].saturating_sub(1 << place.index);
         let moved = random.pick(&[1, spare, spare.wrapping_add(1), words[from]]);
         words[from] = words[from].wrapping_sub(moved);
@@ -205,7 +208,7 @@ fn overfull(random: &mut Random, shape: Shape, words: &mut [u32]) {
 }
 
 fn random_words(random: &mut Random, shape: Shape, words: &mut [u32]) {
-    let clock = words[4];
+    let clock = words[CLOCK];
     let small = random.one_in(2);
     for word in words.iter_mut() {
         *word = match random.below(4) {

@@ -4,9 +4,10 @@
 use std::collections::BTreeSet;
 
 use reference::histogram::{Bucket, Histogram, Level};
-use reference::random::Random;
 use reference::shape::Shape;
 use reference::words::{encode_block, encode_head};
+
+use crate::random::Random;
 
 /// Draws of a level before the plainest one is taken.
 const ATTEMPTS: usize = 8;

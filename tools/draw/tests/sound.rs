@@ -2,10 +2,10 @@
 
 use std::collections::BTreeSet;
 
-use books::shapes;
-use books::sound;
+use draw::random::Random;
+use draw::shapes;
+use draw::sound;
 use reference::histogram::{Histogram, Level};
-use reference::random::Random;
 use reference::shape::Shape;
 use reference::soundness::{block_faults, sound_head};
 use reference::words::{decode_block, decode_head};

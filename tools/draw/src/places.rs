@@ -1,7 +1,11 @@
 //! Where the words of a book stand that damage and calls aim at.
 
-use reference::random::Random;
+use std::ops::Range;
+
+use reference::layout;
 use reference::shape::Shape;
+
+use crate::random::Random;
 
 /// One level of one half of one grade.
 #[derive(Clone, Copy, Debug)]
@@ -12,10 +16,10 @@ pub struct Place {
     pub parity: usize,
     /// The level's index.
     pub index: usize,
-    /// The word of the half's total.
+    /// The first word of the half's total.
     pub total: usize,
-    /// The word of the bucket count; F is the next.
-    pub count: usize,
+    /// The first word of the level.
+    pub start: usize,
     slots: usize,
 }
 
@@ -27,8 +31,8 @@ impl Place {
             grade,
             parity,
             index,
-            total: block + parity,
-            count: block + shape.level(parity, index).start,
+            total: block + layout::total(parity).start,
+            start: block + shape.level(parity, index).start,
             slots: shape.n() as usize,
         }
     }
@@ -45,19 +49,24 @@ impl Place {
         Place::new(shape, grade, random.below(2) as usize, index as usize)
     }
 
-    /// The word of F.
-    pub fn first(self) -> usize {
-        self.count + 1
+    /// The word of the bucket count.
+    pub fn count(self) -> usize {
+        self.start + layout::COUNT
     }
 
-    /// The word of a slot's offset; length and weight are the next two.
+    /// The word of F.
+    pub fn first(self) -> usize {
+        self.start + layout::FIRST
+    }
+
+    /// The first word of a slot.
     pub fn slot(self, slot: usize) -> usize {
-        self.count + Shape::LEVEL_HEAD_WORDS + Shape::SLOT_WORDS * slot
+        self.start + layout::LEVEL_HEAD_WORDS + layout::SLOT_WORDS * slot
     }
 
     /// How many slots the count calls buckets.
     pub fn used(self, words: &[u32]) -> usize {
-        self.slots.min(words[self.count] as usize)
+        self.slots.min(words[self.count()] as usize)
     }
 
     /// A slot with a bucket, where there is one, else any.
@@ -75,7 +84,7 @@ impl Place {
     }
 
     /// All words of the level.
-    pub fn words(self) -> std::ops::Range<usize> {
-        self.count..self.slot(self.slots)
+    pub fn words(self) -> Range<usize> {
+        self.start..self.slot(self.slots)
     }
 }

@@ -1,9 +1,9 @@
-//! Hostile orders: what a clock and its reports would not do by themselves.
+//! Orders that no forecourt sends: at random, by a pattern, and one that aims at the bound.
 
-use reference::random::Random;
+use draw::random::Random;
 
 use crate::observe::{CAPACITY, TICKS};
-use crate::order::{windows, Manner, Order, Step};
+use crate::order::{windows, Kind, Order, Step};
 
 /// Deliveries of an order.
 const COUNT: u32 = 12_000;
@@ -18,10 +18,8 @@ pub fn reverse(seed: u64) -> Order {
     let mut random = Random::new(seed);
     let step = TICKS / COUNT;
     let stamps = (0..COUNT).map(|number| END - number * step);
-    let deliveries = stamps
-        .map(|stamp| (stamp, random.between(1, 1200)))
-        .collect();
-    at_the_end("newest first", seed, deliveries)
+    let deliveries = with_volumes(&mut random, stamps);
+    at_the_end("newest first", Kind::Pattern, seed, deliveries)
 }
 
 /// Each half an interval late or later, while the clock goes through an interval.
@@ -42,8 +40,8 @@ pub fn late(seed: u64) -> Order {
         }
     }
     Order {
-        name: "all six days late or more",
-        manner: Manner::Hostile,
+        name: "each six days late or more",
+        kind: Kind::Pattern,
         books: vec![steps],
     }
 }
@@ -56,10 +54,14 @@ pub fn inwards(seed: u64) -> Order {
         0 => START + number / 2 * step,
         _ => END - number / 2 * step,
     });
-    let deliveries = stamps
+    let deliveries = with_volumes(&mut random, stamps);
+    at_the_end("both ends by turns", Kind::Pattern, seed, deliveries)
+}
+
+fn with_volumes(random: &mut Random, stamps: impl Iterator<Item = u32>) -> Vec<(u32, u32)> {
+    stamps
         .map(|stamp| (stamp, random.between(1, 1200)))
-        .collect();
-    at_the_end("both ends by turns", seed, deliveries)
+        .collect()
 }
 
 /// Every second delivery is a large one at the same tick.
@@ -70,7 +72,12 @@ pub fn heavy_tick(seed: u64) -> Order {
         _ => (random.between(START, END), random.between(1, 400)),
     });
     let deliveries = deliveries.collect();
-    at_the_end("one heavy tick", seed, deliveries)
+    at_the_end(
+        "every second one at one tick",
+        Kind::Pattern,
+        seed,
+        deliveries,
+    )
 }
 
 /// Much in the first minutes of the interval and little in the last ones, by turns.
@@ -82,7 +89,12 @@ pub fn extremes(seed: u64) -> Order {
         _ => (END - random.between(0, MINUTES), 1),
     });
     let deliveries = deliveries.collect();
-    at_the_end("extremes by turns", seed, deliveries)
+    at_the_end(
+        "much at the start, little at the end",
+        Kind::Pattern,
+        seed,
+        deliveries,
+    )
 }
 
 /// Anywhere in the interval.
@@ -90,7 +102,7 @@ pub fn uniform(seed: u64) -> Order {
     let mut random = Random::new(seed);
     let mut delivery = || (random.between(START, END), random.between(1, 1200));
     let deliveries = (0..COUNT).map(|_| delivery()).collect();
-    at_the_end("uniformly random", seed, deliveries)
+    at_the_end("uniformly random", Kind::Random, seed, deliveries)
 }
 
 /// Against the bound. First the interval's first tick gets so much that level i splits down to it,
@@ -102,7 +114,7 @@ pub fn aimed(seed: u64) -> Order {
     let books = (2..=14).map(|level| aimed_at(&mut random, level)).collect();
     Order {
         name: "aimed at the bound",
-        manner: Manner::Hostile,
+        kind: Kind::Adversarial,
         books,
     }
 }
@@ -136,7 +148,7 @@ fn aimed_at(random: &mut Random, level: u32) -> Vec<Step> {
 }
 
 /// All deliveries while the clock stands at the interval's end, as long as they fit.
-fn at_the_end(name: &'static str, seed: u64, deliveries: Vec<(u32, u32)>) -> Order {
+fn at_the_end(name: &'static str, kind: Kind, seed: u64, deliveries: Vec<(u32, u32)>) -> Order {
     let mut random = Random::new(!seed);
     let mut steps = vec![Step::Clock(END)];
     let (mut stamps, mut total) = (Vec::new(), 0);
@@ -153,7 +165,7 @@ fn at_the_end(name: &'static str, seed: u64, deliveries: Vec<(u32, u32)>) -> Ord
     }
     Order {
         name,
-        manner: Manner::Hostile,
+        kind,
         books: vec![steps],
     }
 }

@@ -1,5 +1,7 @@
 //! The command line.
 
+use options::Words;
+
 /// How the program is called.
 pub const USAGE: &str = "\
 usage: books [--seed S] [--books N] [--book I]
@@ -22,24 +24,14 @@ pub struct Options {
 }
 
 impl Options {
-    /// Reads the arguments after the program's own name; the error says what is wrong with them.
-    pub fn parse(arguments: impl IntoIterator<Item = String>) -> Result<Options, String> {
-        let mut arguments = arguments.into_iter();
-        let mut options = Options {
-            seed: 1,
-            books: 24_000,
-            book: None,
+    /// Reads a command line; the error says what is wrong with it.
+    pub fn read(mut words: Words) -> Result<Options, String> {
+        let options = Options {
+            seed: words.number("--seed")?.unwrap_or(1),
+            books: words.number("--books")?.unwrap_or(24_000),
+            book: words.number("--book")?,
         };
-        while let Some(argument) = arguments.next() {
-            let value = arguments.next().and_then(|text| text.parse().ok());
-            let number = || value.ok_or(format!("{argument} needs a number"));
-            match argument.as_str() {
-                "--seed" => options.seed = number()?,
-                "--books" => options.books = number()?,
-                "--book" => options.book = Some(number()?),
-                _ => return Err(format!("unknown: {argument}")),
-            }
-        }
+        let [] = words.operands([])?;
         Ok(options)
     }
 

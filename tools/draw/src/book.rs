@@ -1,13 +1,16 @@
 //! A book to begin with: its kind, its words and how they were damaged.
 
-use reference::calls::{make, perform};
+use reference::calls::{perform, Call};
 use reference::histogram::Histogram;
-use reference::random::Random;
+use reference::layout::HEAD_WORDS;
 use reference::shape::Shape;
 use reference::words::{encode_block, encode_head};
 
-use crate::calls::Caller;
-use crate::shapes::{self, quick_volume};
+use crate::calls::{call_of, Source};
+use crate::pace::Pace;
+use crate::random::Random;
+use crate::shapes::{self, quick_volume, Makes};
+use crate::view::Words;
 use crate::{damage, sound};
 
 /// Where a book comes from.
@@ -61,10 +64,14 @@ fn grown(random: &mut Random, shape: Shape) -> Vec<u32> {
         return fed(random, shape);
     }
     let mut words: Vec<u32> = (0..shape.book_length()).map(|_| random.word()).collect();
-    make(&mut words, shape.k(), shape.n(), shape.m(), shape.g()).expect("the length is right");
-    let calls = random.below(60);
-    for _ in 0..calls {
-        let call = Caller { random, shape }.growing(&words);
+    perform(&mut words, call_of(shape.numbers())).expect("the length is right");
+    let mut source = Source {
+        pace: Pace::growing(random),
+        random: Random::new(random.bits()),
+        makes: Makes::Length(words.len()),
+    };
+    for _ in 0..random.below(60) {
+        let call = source.call(&Words::new(shape, &words));
         // Refused calls are part of a run.
         let _ = perform(&mut words, call);
     }
@@ -101,4 +108,27 @@ fn stamp(random: &mut Random, shape: Shape, clock: u32) -> u64 {
         (reach / 3 + random.below(300)) % reach
     };
     clock - back
+}
+
+/// How many words a call is lent, of a book with `exact` and `more` after it: mostly those of the
+/// book, else fewer, more or none.
+pub fn lent(random: &mut Random, call: Call, exact: usize, more: usize) -> usize {
+    let often = if matches!(call, Call::Make { .. }) {
+        4
+    } else {
+        14
+    };
+    if !random.one_in(often) {
+        return exact;
+    }
+    match random.below(8) {
+        0 => 0,
+        1 => random.below(HEAD_WORDS as u64 + 1) as usize,
+        2 => exact - 1,
+        3 => exact - 3,
+        4 => exact + 1,
+        5 => exact + random.below(more as u64 + 1) as usize,
+        6 => exact - HEAD_WORDS,
+        _ => random.below(exact as u64) as usize,
+    }
 }

@@ -66,7 +66,7 @@ module _ (byte : ℕ) (bytes input : List ℕ) where
   other-lines : (byte ≡ newline → ⊥) → withBytes bytes (linesOf (byte ∷ input)) ≡ withBytes (bytes ++ byte ∷ []) (linesOf input)
   other-lines e = rw (ne-eqb byte newline e) (sym (front-byte bytes byte (linesOf input)))
 
--- what the program writes from any place on, with this input to come
+-- the program writes what is right, from any place on, with this input to come
 abbrev Right : List ℕ → Type 0
 Right input =
     (bytes words : List ℕ) (lent : ℕ) (out : List ℕ)
@@ -112,14 +112,14 @@ pub session-output : (input : List ℕ) → endInput (foldl feedByte fresh input
 unfolding fresh output
 session-output input = right input [] zeroBuffer bufferWords []
 
--- a line is answered where its newline is read
+-- a line is answered where its newline is read: no later byte is waited for
 pub line-output : (input : List ℕ) → foldl feedByte fresh (input ++ newline ∷ []) .out ≡ output (input ++ newline ∷ [])
 unfolding endLine
 line-output input = rw (← session-output (input ++ newline ∷ []), foldl-append feedByte fresh input (newline ∷ []))
 
 -- ---- the input in parts
 
--- bytes in front of those that wait
+-- the same with bytes in front of those that wait
 behind : List ℕ → Bench → Bench
 behind front b = record { line = b .line; begun = b .begun; words = b .words; lent = b .lent; out = front ++ b .out }
 

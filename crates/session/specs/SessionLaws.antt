@@ -1,4 +1,4 @@
--- What the parts of the code give, put together. Assumes nothing.
+-- What the code's calls give, put together to a step of the session. Assumes nothing.
 use mathlib.Core.Bool.{true, false}
 use mathlib.Core.List.{List, _++_, append-assoc}
 use mathlib.Core.Path.{_≡_, sym, ap, _∙_}
@@ -39,7 +39,7 @@ unfolding saidText
 said-short (said.Answer a) = text-short (replyOf a)
 said-short said.Unread = unread-short
 
--- the output behind the bytes that wait
+-- the output behind the bytes that wait has room for a text
 pub room-behind : (out : List ℕ) (used : ℕ) → used + 32 ≤ length out → 32 ≤ length (take (length out - used) (drop used out))
 room-behind out used h = rw (length-take-le (length out - used) (drop used out) (omega (arith, length-drop used out))) (omega arith)
 

@@ -1,3 +1,4 @@
+pub mod Example
 pub mod Output
 pub mod Parsing
 pub mod Protocol

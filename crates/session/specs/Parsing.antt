@@ -1,7 +1,7 @@
 -- The reader's answer and its values determine each other. Assumes nothing.
 use mathlib.Core.Bool.{Bool, true, false, cond}
 use mathlib.Core.List.{List, [], _∷_, map}
-use mathlib.Core.Path.{_≡_, refl}
+use mathlib.Core.Path.{_≡_, refl, sym, subst}
 use Prim.Native.Nat.{ℕ}
 use Rattle.shape.specs.Limits.{Reply, accepted}
 use Rattle.model.specs.declared.Call.the-variants.{Make, Clock, Delivery, Query}
@@ -23,9 +23,13 @@ parsed-reading Unread = refl
 abbrev Kept : Reply → Type 0
 Kept reply = readingOf (parsedOf reply) ≡ reply
 
-kept-asks : (wanted letter : ℕ) (numbers : List ℕ) → Kept (accepted (wanted ∷ numbers)) → Kept (asks wanted letter numbers)
+kept-unread : Kept unread
 unfolding parsedOf readingOf
-kept-asks wanted letter numbers kept = by-eq letter wanted Kept (λ e. rw e kept) (λ _. refl)
+kept-unread = refl
+
+kept-asks : (wanted letter : ℕ) (numbers : List ℕ) → Kept (accepted (wanted ∷ numbers)) → Kept (asks wanted letter numbers)
+kept-asks wanted letter numbers kept =
+    by-eq letter wanted Kept (λ e. subst (λ (x : ℕ). Kept (accepted (x ∷ numbers))) (sym e) kept) (λ _. kept-unread)
 
 kept-called : (letter : ℕ) (numbers : List ℕ) → Kept (called letter numbers)
 unfolding parsedOf readingOf
@@ -35,10 +39,6 @@ kept-called letter (grade ∷ window ∷ []) = kept-asks 113 letter (grade ∷ w
 kept-called letter (grade ∷ stamp ∷ volume ∷ []) = kept-asks 100 letter (grade ∷ stamp ∷ volume ∷ []) refl
 kept-called letter (k ∷ n ∷ m ∷ g ∷ []) = kept-asks 109 letter (k ∷ n ∷ m ∷ g ∷ []) refl
 kept-called letter (a ∷ b ∷ c ∷ d ∷ e ∷ more) = refl
-
-kept-unread : Kept unread
-unfolding parsedOf readingOf
-kept-unread = refl
 
 kept-ordered : (first : List ℕ) (fields : List (List ℕ)) → Kept (ordered first fields)
 kept-ordered [] fields = kept-unread

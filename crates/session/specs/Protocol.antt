@@ -5,6 +5,7 @@ use Prim.Native.Nat.{ℕ}
 use lib.Dec.{eqb}
 use lib.ListN.{replicate}
 use Rattle.shape.specs.Limits.{Reply}
+use Rattle.model.specs.declared.Call.{Call}
 use Rattle.model.specs.declared.Call.the-variants.{Make, Clock, Delivery, Query}
 use Rattle.grammar.specs.declared.Parsed.{Parsed}
 use Rattle.grammar.specs.declared.Parsed.the-variants.{Read, Unread}
@@ -31,21 +32,23 @@ abbrev pub linesOf : List ℕ → List (List ℕ)
 linesOf [] = []
 linesOf (byte ∷ bytes) = cond (eqb byte newline) ([] ∷ linesOf bytes) (withByte byte (linesOf bytes))
 
--- the call made of the values that the grammar gives a line, a letter and its numbers; the count of numbers says which call it is, since no
--- two letters take as many (`called`)
+abbrev pub asked : ℕ → ℕ → Call → Parsed  -- the letter that is wanted, and its call
+asked wanted letter call = cond (eqb letter wanted) (Read call) Unread
+
+-- the call of a letter and its numbers, as the grammar gives them
 abbrev pub parsedValues : List ℕ → Parsed
 parsedValues [] = Unread
 parsedValues (letter ∷ []) = Unread
-parsedValues (letter ∷ clock ∷ []) = Read (Clock clock)
-parsedValues (letter ∷ grade ∷ window ∷ []) = Read (Query grade window)
-parsedValues (letter ∷ grade ∷ stamp ∷ volume ∷ []) = Read (Delivery grade stamp volume)
-parsedValues (letter ∷ k ∷ n ∷ m ∷ g ∷ []) = Read (Make k n m g)
+parsedValues (letter ∷ clock ∷ []) = asked 99 letter (Clock clock)
+parsedValues (letter ∷ grade ∷ window ∷ []) = asked 113 letter (Query grade window)
+parsedValues (letter ∷ grade ∷ stamp ∷ volume ∷ []) = asked 100 letter (Delivery grade stamp volume)
+parsedValues (letter ∷ k ∷ n ∷ m ∷ g ∷ []) = asked 109 letter (Make k n m g)
 parsedValues (letter ∷ a ∷ b ∷ c ∷ d ∷ e ∷ more) = Unread
 
 unfoldable pub parsedOf : Reply → Parsed  -- what a line asks for, by the grammar's reply
 parsedOf reply = parsedValues (reply .values)
 
--- SPECIFICATION 11.1: what is printed for lines, one after another; each finds the buffer and what is lent as the one before left them
+-- what is printed for lines, one after the other: each line finds the buffer, and as much of it lent, as the line before left it
 abbrev pub printed : List ℕ → ℕ → List (List ℕ) → List ℕ
 printed words lent [] = []
 printed words lent (line ∷ lines) = let after = afterLine words lent (parsedOf (grammar line)) in after .text ++ printed (after .words) (after .lent) lines

@@ -7,6 +7,7 @@ ghost use mathlib.Core.Path.{_≡_};
 ghost use Prim.Native.Nat.{_+_, _%_, _^_, _≤_};
 ghost use lib.Dec.{ltb};
 ghost use lib.ListN.{length, getD};
+ghost use Rattle.shape.specs.Layout.{blockHeadLen, totalStart};
 ghost use Rattle.model.specs.Words.{levelPart, decodeHalf, decodeBlock};
 ghost use Rattle.model.specs.Block.{interval, halfOf, servingIndex, answer};
 ghost use Rattle.model.specs.Sound.{soundHalf, soundBlock};
@@ -33,8 +34,8 @@ fn level_at(block: &[u32], s: Shape, parity: u8, i: u8) -> &[u32]
 
 // The total of the half that serves interval j.
 pub fn total(block: &[u32], j: u32) -> u64
-    requires { ⌜ 2 ≤ length (now block) ⌝ }
-    ensures { λ r. ⌜ r ≡ getD (now (block .entry)) (j % 2) 0 ⌝ }
+    requires { ⌜ blockHeadLen ≤ length (now block) ⌝ }
+    ensures { λ r. ⌜ r ≡ getD (now (block .entry)) (totalStart (j % 2)) 0 ⌝ }
 {
     let at = (j % 2) as usize;
     block[at] as u64

@@ -1,4 +1,4 @@
--- What opening a book and judging a call answer, as number and values. Assumes nothing.
+-- What opening a book and judging a call answer, as number and values: SPECIFICATION 6.5. Assumes nothing.
 use mathlib.Core.Bool.{cond}
 use mathlib.Core.List.{List, [], _∷_, _++_}
 use Prim.Native.Nat.{ℕ}

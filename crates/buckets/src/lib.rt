@@ -111,13 +111,13 @@ pub fn put_at(
         put_in(level, j, count, offset, width, weight);
         return j + 1;
     }
-    let lowest = level[2];
+    let lowest = level[LEVEL_HEAD_LEN];
     if j == 0 {
         level[1] = first_after(i, offset, lowest);
         return j;
     }
     shift_in(level, j - 1, offset, width, weight);
-    level[1] = first_after(i, lowest, level[2]);
+    level[1] = first_after(i, lowest, level[LEVEL_HEAD_LEN]);
     j
 }
 

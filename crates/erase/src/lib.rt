@@ -1,4 +1,5 @@
 // Emptying one grade's block, on its part of the words: the whole block, or the halves that the clock empties.
+use shape::LEVEL_HEAD_LEN;
 use shape::Shape;
 use stamp::interval;
 use stamp::parity;
@@ -13,6 +14,9 @@ ghost use Rattle.laws.specs.Proper.{Sized, Whole};
 ghost use Rattle.laws.specs.BlockWrites.{withLevel};
 ghost use Rattle.laws.specs.HalfWrites.{emptyWords, emptied};
 ghost use Rattle.block.specs.Steps.{LevelIn};
+
+// Where the width of a level's first slot stands.
+const FIRST_WIDTH: usize = LEVEL_HEAD_LEN + 1;
 
 fn zero(words: &mut [u32])
     ensures { λ _. ⌜ now (words .exit) ≡ replicate (length (now (words .entry))) 0 ⌝ }
@@ -32,7 +36,7 @@ fn clear_level(level: &mut [u32], s: Shape, i: u8)
     zero(level);
     if 0 < i {
         level[0] = 1;
-        level[3] = power(s.k);
+        level[FIRST_WIDTH] = power(s.k);
     }
 }
 

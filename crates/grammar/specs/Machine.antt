@@ -4,20 +4,20 @@ use mathlib.Core.List.{List, [], _∷_, _++_}
 use Prim.Native.Nat.{ℕ, _+_, _*_, _-_}
 use lib.Dec.{leb, eqb}
 use Rattle.shape.specs.Limits.{Reply}
-use Rattle.grammar.specs.declared.Kept.{Kept}
-use Rattle.grammar.specs.declared.Kept.the-variants.{None, One, Two, Three}
+use Rattle.grammar.specs.declared.Numbers.{Numbers}
+use Rattle.grammar.specs.declared.Numbers.the-variants.{None, One, Two, Three}
 use Rattle.grammar.specs.declared.State.{State}
 use Rattle.grammar.specs.declared.State.the-variants.{Start, Letter, Space, Number, Broken}
 use Rattle.grammar.specs.Grammar.{isDigit, largest, unread, called}
 
-abbrev pub numbersOf : Kept → List ℕ
+abbrev pub numbersOf : Numbers → List ℕ
 numbersOf None = []
 numbersOf (One a) = a ∷ []
 numbersOf (Two a b) = a ∷ b ∷ []
 numbersOf (Three a b c) = a ∷ b ∷ c ∷ []
 
 -- the state after a number and a space; no call has five numbers
-abbrev pub spaced : ℕ → Kept → ℕ → State
+abbrev pub spaced : ℕ → Numbers → ℕ → State
 spaced letter None value = Space letter (One value)
 spaced letter (One a) value = Space letter (Two a value)
 spaced letter (Two a b) value = Space letter (Three a b value)
@@ -27,7 +27,7 @@ spaced letter (Three a b c) value = Broken
 abbrev pub grows : ℕ → ℕ → Bool
 grows value byte = isDigit byte && (not (eqb value 0) && leb (10 * value + (byte - 48)) largest)
 
-abbrev pub grown : ℕ → Kept → ℕ → ℕ → State
+abbrev pub grown : ℕ → Numbers → ℕ → ℕ → State
 grown letter kept value byte = cond (grows value byte) (Number letter kept (10 * value + (byte - 48))) Broken
 
 abbrev pub moved : State → ℕ → State

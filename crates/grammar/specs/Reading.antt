@@ -12,8 +12,8 @@ use borrow.Author.Tests.{eq-eqb, ne-eqb, le-leb, lt-leb}
 use Rattle.shape.specs.Limits.{Reply}
 use Rattle.shape.specs.LimitsLaws.{between-limits}
 use Rattle.laws.specs.Cond.{eq-or-ne, lt-or-ge, and-false}
-use Rattle.grammar.specs.declared.Kept.{Kept}
-use Rattle.grammar.specs.declared.Kept.the-variants.{None, One, Two, Three}
+use Rattle.grammar.specs.declared.Numbers.{Numbers}
+use Rattle.grammar.specs.declared.Numbers.the-variants.{None, One, Two, Three}
 use Rattle.grammar.specs.declared.State.{State}
 use Rattle.grammar.specs.declared.State.the-variants.{Start, Letter, Space, Number, Broken}
 use Rattle.grammar.specs.Grammar.{firstField, laterFields, every, isDigit, valueFrom, valueOf, largest, isNumber, unread, called, ordered, grammar}
@@ -137,7 +137,7 @@ either : (t : Bool) (u : Reply) → cond t u u ≡ u
 either true u = refl
 either false u = refl
 
-space-on : (letter v : ℕ) (kept : Kept) (bs : List ℕ)
+space-on : (letter v : ℕ) (kept : Numbers) (bs : List ℕ)
     → fieldsOf letter (numbersOf kept ++ v ∷ []) (firstField bs ∷ laterFields bs) ≡ left (spaced letter kept v) bs
 unfolding left
 space-on letter v None bs = refl
@@ -145,14 +145,14 @@ space-on letter v (One a) bs = refl
 space-on letter v (Two a b) bs = refl
 space-on letter v (Three a b c) bs = either (every isNumber (firstField bs ∷ laterFields bs)) unread
 
-grow-on : (t : Bool) (letter next : ℕ) (kept : Kept) (bs : List ℕ)
+grow-on : (t : Bool) (letter next : ℕ) (kept : Numbers) (bs : List ℕ)
     → cond (t && goesOn next (firstField bs)) (fieldsOf letter (numbersOf kept ++ valueFrom next (firstField bs) ∷ []) (laterFields bs)) unread
     ≡ left (cond t (Number letter kept next) Broken) bs
 unfolding left
 grow-on true letter next kept bs = refl
 grow-on false letter next kept bs = refl
 
-digit-on : (t : Bool) (letter b : ℕ) (kept : Kept) (bs : List ℕ) → isDigit b ≡ t
+digit-on : (t : Bool) (letter b : ℕ) (kept : Numbers) (bs : List ℕ) → isDigit b ≡ t
     → fieldsOf letter (numbersOf kept) ((b ∷ firstField bs) ∷ laterFields bs) ≡ left (cond t (Number letter kept (b - 48)) Broken) bs
 unfolding left
 digit-on false letter b kept bs q = rw (number-on b (firstField bs), q)

@@ -8,7 +8,7 @@ pub enum Parsed {
 }
 
 // The numbers before the current one.
-pub enum Kept {
+pub enum Numbers {
     None,
     One(u32),
     Two(u32, u32),
@@ -22,9 +22,9 @@ pub enum State {
     // One byte, which may be the letter of a call.
     Letter(u8),
     // The letter, some whole numbers, and a space after them.
-    Space(u8, Kept),
+    Space(u8, Numbers),
     // The letter, some whole numbers, and the value of the digits after them.
-    Number(u8, Kept, u32),
+    Number(u8, Numbers, u32),
     // Bytes with which no call starts: the line is unread, whatever follows.
     Broken,
 }

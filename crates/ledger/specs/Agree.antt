@@ -7,7 +7,7 @@ use lib.Dec.{ltb, eqb}
 use lib.ListN.{length}
 use borrow.Author.Tests.{not-false, ltb-true, ltb-false}
 use Rattle.shape.specs.declared.Shape.{Shape}
-use Rattle.shape.specs.Layout.{bookWords}
+use Rattle.shape.specs.Layout.{headLen, bookWords}
 use Rattle.model.specs.declared.Call.{Call}
 use Rattle.model.specs.declared.Call.the-variants.{Make, Clock, Delivery, Query}
 use Rattle.model.specs.Block.{Half, interval, late, halfOf}
@@ -58,12 +58,12 @@ module _ (l : Ledger) (good : Good l) where
       rw (bookView-grown, words-head l good, words-all-sound l good, all)
   agree (Delivery grade stamp volume) =
       rw (bookView-grown, words-head l good)
-      (past (ltb (length ws) 8) 2 (λ _. past (not (eqb (length ws) (bookWords s))) 2 (λ _. past (not (ltb grade (s .g))) 3 (λ inside.
+      (past (ltb (length ws) headLen) 2 (λ _. past (not (eqb (length ws) (bookWords s))) 2 (λ _. past (not (ltb grade (s .g))) 3 (λ inside.
       let h : grade < s .g = ltb-true grade (s .g) (not-false (ltb grade (s .g)) inside) in
       past (eqb volume 0 || ltb 65535 volume) 4 (λ _. past (ltb clock stamp) 8 (λ low. past (late s clock stamp) 9 (λ high.
       rw (words-sound l good grade h, total-agrees grade stamp h (ltb-false clock stamp low) (ltb-false (stamp + 2 ^ s .k) clock high)))))))))
   agree (Query grade window) =
       rw (bookView-grown, words-head l good)
-      (past (ltb (length ws) 8) 2 (λ _. past (not (eqb (length ws) (bookWords s))) 2 (λ _. past (not (ltb grade (s .g))) 3 (λ inside.
+      (past (ltb (length ws) headLen) 2 (λ _. past (not (eqb (length ws) (bookWords s))) 2 (λ _. past (not (ltb grade (s .g))) 3 (λ inside.
       let h : grade < s .g = ltb-true grade (s .g) (not-false (ltb grade (s .g)) inside) in
       rw (words-sound l good grade h)))))

@@ -10,7 +10,7 @@ use lib.Dec.{ltb, eqb}
 use lib.ListN.{length, getD}
 use Rattle.shape.specs.declared.Shape.{Shape}
 use Rattle.shape.specs.Limits.{Reply, accepted, refused}
-use Rattle.shape.specs.Layout.{bookWords, blockWords, blockStart}
+use Rattle.shape.specs.Layout.{headLen, bookWords, blockWords, blockStart}
 use Rattle.model.specs.declared.Call.the-variants.{Delivery, Query}
 use Rattle.model.specs.Block.{Block, opening, answer, deliver}
 use Rattle.model.specs.Words.{shapeOf, clockOf, blockPart, decodeBlock, encodeBlock, withBlock}
@@ -43,7 +43,7 @@ query-reply ws grade window = go (eqb (firstOf (refusals (bookView ws) (Query gr
     go false = refl
 
 -- words that agree in length, in the head and in the grade's block give the same replies to its questions
-module _ (ws vs : List ℕ) (lengths : length vs ≡ length ws) (heads : (i : ℕ) → i < 8 → getD vs i 0 ≡ getD ws i 0) where
+module _ (ws vs : List ℕ) (lengths : length vs ≡ length ws) (heads : (i : ℕ) → i < headLen → getD vs i 0 ≡ getD ws i 0) where
   shape-same : shapeOf vs ≡ shapeOf ws
   shape-same = rw (heads 0 (omega arith), heads 1 (omega arith), heads 2 (omega arith), heads 3 (omega arith))
 

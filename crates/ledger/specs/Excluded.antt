@@ -39,9 +39,15 @@ unfolding runOf run
 run-same ws l [] = refl
 run-same ws l (call ∷ calls) = rw (run-same (perform ws call .left) (enter (length ws) l call .left) calls)
 
-pub claim-same : Claim → ClaimOf perform
+pub claim-same : (Claim → ClaimOf perform) × (ClaimOf perform → Claim)
 unfolding Claim
-claim-same claim before k n m g h calls = rw (run-same (perform before (Make k n m g) .left) (ledgerOf (shaped k n m g) 0 []) calls) (claim before k n m g h calls)
+claim-same = (there, back)
+  where
+    there : Claim → ClaimOf perform
+    there claim before k n m g h calls = rw (run-same (perform before (Make k n m g) .left) (ledgerOf (shaped k n m g) 0 []) calls) (claim before k n m g h calls)
+
+    back : ClaimOf perform → Claim
+    back claim before k n m g h calls = rw (← run-same (perform before (Make k n m g) .left) (ledgerOf (shaped k n m g) 0 []) calls) (claim before k n m g h calls)
 
 -- ---- a constant sum
 

@@ -162,7 +162,7 @@ module _ (l : Ledger) (good : Good l) where
 
   -- if a relation survives adding the same volume on both sides and holds of the half in which the window opens, it holds of the window's
   -- sums
-  sum-relates : (R : ℕ → ℕ → Type 0) → ((x y more : ℕ) → R x y → R (x + more) (y + more)) → (p : Entry → Bool) (window : ℕ) → window ≤ 2 ^ s .k
+  pub sum-relates : (R : ℕ → ℕ → Type 0) → ((x y more : ℕ) → R x y → R (x + more) (y + more)) → (p : Entry → Bool) (window : ℕ) → window ≤ 2 ^ s .k
       → HalfRelates R p (interval s (opening clock window)) (offsetOf s (opening clock window))
       → R (answer s clock (opening clock window) (blockFor s clock es p)) (volumeOf (ofWindow clock p window) es)
   unfolding answer halfFed

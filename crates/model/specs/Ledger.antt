@@ -10,7 +10,7 @@ use Rattle.model.specs.declared.Call.the-variants.{Make, Clock, Delivery
 use Rattle.model.specs.Block.{covers, interval}
 use Rattle.model.specs.Calls.{View, refusals, Outcome, outcomeOf, settle}
 
-pub record Entry : Type 0 where  -- an accepted delivery with all its numbers
+pub record Entry : Type 0 where  -- SPECIFICATION 8: what an accepted delivery said
   pub grade : ℕ
   pub stamp : ℕ
   pub volume : ℕ

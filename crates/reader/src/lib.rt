@@ -1,5 +1,5 @@
 // Reading a line of the bench program (SPECIFICATION 11.3): one more byte, and the call that a letter and its numbers make.
-use grammar::Kept;
+use grammar::Numbers;
 use grammar::Parsed;
 use grammar::State;
 use model::Call;
@@ -23,19 +23,19 @@ fn is_digit(byte: u8) -> bool
 }
 
 // A space after a number. No call has more than four numbers.
-fn space(letter: u8, kept: Kept, value: u32) -> State
+fn space(letter: u8, kept: Numbers, value: u32) -> State
     ensures { λ r. ⌜ r ≡ spaced letter kept value ⌝ }
 {
     match kept {
-        Kept::None => State::Space(letter, Kept::One(value)),
-        Kept::One(a) => State::Space(letter, Kept::Two(a, value)),
-        Kept::Two(a, b) => State::Space(letter, Kept::Three(a, b, value)),
-        Kept::Three(_, _, _) => State::Broken,
+        Numbers::None => State::Space(letter, Numbers::One(value)),
+        Numbers::One(a) => State::Space(letter, Numbers::Two(a, value)),
+        Numbers::Two(a, b) => State::Space(letter, Numbers::Three(a, b, value)),
+        Numbers::Three(_, _, _) => State::Broken,
     }
 }
 
 // One more digit of a number.
-fn grow(letter: u8, kept: Kept, value: u32, byte: u8) -> State
+fn grow(letter: u8, kept: Numbers, value: u32, byte: u8) -> State
     ensures { λ r. ⌜ r ≡ grown letter kept value byte ⌝ }
 {
     if !is_digit(byte) {
@@ -65,7 +65,7 @@ pub fn advance(state: State, byte: u8) -> State
         }
         State::Letter(letter) => {
             if byte == SPACE {
-                State::Space(letter, Kept::None)
+                State::Space(letter, Numbers::None)
             } else {
                 State::Broken
             }
@@ -89,16 +89,16 @@ pub fn advance(state: State, byte: u8) -> State
 }
 
 // The call that a letter and its numbers make.
-pub fn call(letter: u8, kept: Kept, last: u32) -> Parsed
+pub fn call(letter: u8, kept: Numbers, last: u32) -> Parsed
     ensures { λ r. ⌜ readingOf r ≡ called letter (numbersOf kept ++ last ∷ []) ⌝ }
 {
     match kept {
-        Kept::None => {
+        Numbers::None => {
             if letter == b'c' {
                 return Parsed::Read(Call::Clock { clock: last });
             }
         }
-        Kept::One(grade) => {
+        Numbers::One(grade) => {
             if letter == b'q' {
                 return Parsed::Read(Call::Query {
                     grade,
@@ -106,7 +106,7 @@ pub fn call(letter: u8, kept: Kept, last: u32) -> Parsed
                 });
             }
         }
-        Kept::Two(grade, stamp) => {
+        Numbers::Two(grade, stamp) => {
             if letter == b'd' {
                 return Parsed::Read(Call::Delivery {
                     grade,
@@ -115,7 +115,7 @@ pub fn call(letter: u8, kept: Kept, last: u32) -> Parsed
                 });
             }
         }
-        Kept::Three(k, n, m) => {
+        Numbers::Three(k, n, m) => {
             if letter == b'm' {
                 return Parsed::Read(Call::Make { k, n, m, g: last });
             }

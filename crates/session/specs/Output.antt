@@ -12,7 +12,7 @@ use Rattle.grammar.specs.Grammar.{grammar}
 use Rattle.lines.specs.Bytes.{started, stepped, read-line}
 use Rattle.lent.specs.Lent.{afterLine}
 use Rattle.session.specs.Protocol.{newline, bufferWords, zeroBuffer, withByte, linesOf, parsedOf, printed, output}
-use Rattle.session.specs.Session.{Bench, fresh, endLine, addByte, feedByte, endInput, writtenOut, inParts}
+use Rattle.session.specs.Session.{Bench, initial, endLine, addByte, feedByte, endInput, writtenOut, inParts}
 use Rattle.session.specs.SessionLaws.{at-newline, at-other}
 
 -- ---- a line that has begun
@@ -108,14 +108,14 @@ right (byte ∷ input) = λ bytes words lent out.
     ⊎-elim (right-newline byte input rest bytes words lent out) (right-other byte input rest bytes words lent out) (eq-or-ne byte newline)
 
 -- the bytes that wait at the end are the output of the protocol
-pub session-output : (input : List ℕ) → endInput (foldl feedByte fresh input) .out ≡ output input
-unfolding fresh output
+pub session-output : (input : List ℕ) → endInput (foldl feedByte initial input) .out ≡ output input
+unfolding initial output
 session-output input = right input [] zeroBuffer bufferWords []
 
 -- a line is answered when its newline has been read: no later byte is waited for
-pub line-output : (input : List ℕ) → foldl feedByte fresh (input ++ newline ∷ []) .out ≡ output (input ++ newline ∷ [])
+pub line-output : (input : List ℕ) → foldl feedByte initial (input ++ newline ∷ []) .out ≡ output (input ++ newline ∷ [])
 unfolding endLine
-line-output input = rw (← session-output (input ++ newline ∷ []), foldl-append feedByte fresh input (newline ∷ []))
+line-output input = rw (← session-output (input ++ newline ∷ []), foldl-append feedByte initial input (newline ∷ []))
 
 -- ---- the input in parts
 
@@ -158,5 +158,5 @@ parts-whole b (part ∷ parts) =
     ∙ ap (λ (x : Bench). endInput x .out) (sym (foldl-append feedByte b part (join parts)))
 
 -- in whatever parts the input comes, what is written is the output of the protocol
-pub parts-output : (parts : List (List ℕ)) → inParts fresh parts ≡ output (join parts)
-parts-output parts = parts-whole fresh parts ∙ session-output (join parts)
+pub parts-output : (parts : List (List ℕ)) → inParts initial parts ≡ output (join parts)
+parts-output parts = parts-whole initial parts ∙ session-output (join parts)

@@ -20,18 +20,18 @@ parsed-reading (Read (Query grade window)) = refl
 parsed-reading Unread = refl
 
 -- a reply that is the same after it was turned into a call and back
-abbrev Kept : Reply → Type 0
-Kept reply = readingOf (parsedOf reply) ≡ reply
+abbrev Reread : Reply → Type 0
+Reread reply = readingOf (parsedOf reply) ≡ reply
 
-kept-unread : Kept unread
+kept-unread : Reread unread
 unfolding parsedOf readingOf
 kept-unread = refl
 
-kept-asks : (wanted letter : ℕ) (numbers : List ℕ) → Kept (accepted (wanted ∷ numbers)) → Kept (asks wanted letter numbers)
+kept-asks : (wanted letter : ℕ) (numbers : List ℕ) → Reread (accepted (wanted ∷ numbers)) → Reread (asks wanted letter numbers)
 kept-asks wanted letter numbers kept =
-    by-eq letter wanted Kept (λ e. subst (λ (x : ℕ). Kept (accepted (x ∷ numbers))) (sym e) kept) (λ _. kept-unread)
+    by-eq letter wanted Reread (λ e. subst (λ (x : ℕ). Reread (accepted (x ∷ numbers))) (sym e) kept) (λ _. kept-unread)
 
-kept-called : (letter : ℕ) (numbers : List ℕ) → Kept (called letter numbers)
+kept-called : (letter : ℕ) (numbers : List ℕ) → Reread (called letter numbers)
 unfolding parsedOf readingOf
 kept-called letter [] = refl
 kept-called letter (clock ∷ []) = kept-asks 99 letter (clock ∷ []) refl
@@ -40,11 +40,11 @@ kept-called letter (grade ∷ stamp ∷ volume ∷ []) = kept-asks 100 letter (g
 kept-called letter (k ∷ n ∷ m ∷ g ∷ []) = kept-asks 109 letter (k ∷ n ∷ m ∷ g ∷ []) refl
 kept-called letter (a ∷ b ∷ c ∷ d ∷ e ∷ more) = refl
 
-kept-ordered : (first : List ℕ) (fields : List (List ℕ)) → Kept (ordered first fields)
+kept-ordered : (first : List ℕ) (fields : List (List ℕ)) → Reread (ordered first fields)
 kept-ordered [] fields = kept-unread
 kept-ordered (letter ∷ []) fields = go (every isNumber fields)
   where
-    go : (t : Bool) → Kept (cond t (called letter (map valueOf fields)) unread)
+    go : (t : Bool) → Reread (cond t (called letter (map valueOf fields)) unread)
     go true = kept-called letter (map valueOf fields)
     go false = kept-unread
 kept-ordered (letter ∷ b ∷ bs) fields = kept-unread

@@ -17,8 +17,8 @@ pub record Bench : Type 0 where  -- the program between two bytes of its input
   pub lent : ℕ  -- how much of it a call is lent
   pub out : List ℕ  -- the bytes that wait to be written
 
-unfoldable pub fresh : Bench  -- before the first byte
-fresh = record { line = started; begun = false; words = zeroBuffer; lent = bufferWords; out = [] }
+unfoldable pub initial : Bench  -- before the first byte
+initial = record { line = started; begun = false; words = zeroBuffer; lent = bufferWords; out = [] }
 
 unfoldable pub endLine : Bench → Bench  -- the line ends, and its answer waits
 endLine b =

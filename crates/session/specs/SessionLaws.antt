@@ -22,17 +22,17 @@ use Rattle.lent.specs.Said.{saidText, afterOf}
 use Rattle.session.specs.declared.Session.{Session}
 use Rattle.session.specs.Protocol.{newline, bufferWords, zeroBuffer}
 use Rattle.session.specs.Parsing.{parsed-reading}
-use Rattle.session.specs.Session.{Bench, fresh, endLine, addByte, feedByte, endInput, benchOf}
+use Rattle.session.specs.Session.{Bench, initial, endLine, addByte, feedByte, endInput, benchOf}
 
 zero-length : length zeroBuffer ≡ bufferWords
 unfolding zeroBuffer
 zero-length = length-replicate {A = ℕ} bufferWords 0
 
 -- before the first byte
-pub start-fresh : (line : Line) (words out : List ℕ) → line ≡ started → words ≡ zeroBuffer
-    → benchOf (record { line = line; begun = false; lent = length words; used = 0 }) words out ≡ fresh
-unfolding fresh
-start-fresh line words out l w = rw (l, w, zero-length)
+pub start-initial : (line : Line) (words out : List ℕ) → line ≡ started → words ≡ zeroBuffer
+    → benchOf (record { line = line; begun = false; lent = length words; used = 0 }) words out ≡ initial
+unfolding initial
+start-initial line words out l w = rw (l, w, zero-length)
 
 pub said-short : (s : Said) → length (saidText s) ≤ 32
 unfolding saidText

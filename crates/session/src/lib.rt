@@ -8,7 +8,7 @@ ghost use lib.ListN.{length, take};
 ghost use Rattle.text.specs.Text.{written, stored};
 ghost use Rattle.lent.specs.Said.{saidText};
 ghost use Rattle.session.specs.Protocol.{zeroBuffer};
-ghost use Rattle.session.specs.Session.{fresh, endLine, feedByte, endInput, writtenOut, benchOf};
+ghost use Rattle.session.specs.Session.{initial, endLine, feedByte, endInput, writtenOut, benchOf};
 
 // The state between two bytes of the input. The buffer of words and the bytes of the output are lent beside it.
 pub struct Session {
@@ -109,7 +109,7 @@ pub fn end_input(book: &mut [u32], out: &mut [u8], s: Session) -> Session
 // The state before the first byte. The buffer is zero, as at the start.
 pub fn begin(book: &[u32]) -> Session
     requires { ⌜ now book ≡ zeroBuffer ⌝ }
-    ensures { λ r. ⌜ ((out : List ℕ) → benchOf r (now (book .entry)) out ≡ fresh) ⌝ }
+    ensures { λ r. ⌜ ((out : List ℕ) → benchOf r (now (book .entry)) out ≡ initial) ⌝ }
     ensures { λ r. ⌜ (r .lent ≤ length (now (book .entry))) × (r .used ≡ 0) ⌝ }
 {
     Session {

@@ -20,7 +20,7 @@ pub const SLOT_LEN: usize = 3;
 pub struct Shape {
     // An interval is 2 ^ k ticks.
     pub k: u8,
-    // A level holds at most n buckets.
+    // The buckets that a level has room for.
     pub n: u16,
     // M in the customer's paper: levels run from 0 to m, and a half takes at most 2 ^ m decilitres.
     pub m: u8,

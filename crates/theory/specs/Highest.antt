@@ -1,4 +1,4 @@
--- Level 0 holds the n highest different offsets with their exact weights, whatever the order of the deliveries. Stated as conditions: level
+-- In whatever order deliveries come, level 0 keeps the n highest offsets and counts each of them exactly. Stated as conditions: level
 -- 0 meets them, and only one level does. Assumes nothing.
 use mathlib.Core.Bool.{cond}
 use mathlib.Core.Logic.{⊎-elim}

@@ -50,9 +50,9 @@ fn weights(random: &mut Random, shape: Shape, words: &mut [u32]) {
     }
 }
 
-/// A level whose buckets go once round all 32-bit offsets before they part the interval: each
-/// starts where the last one ended, modulo 2^32, each length is a power of two that divides its
-/// offset, and the weights are the total.
+/// A level whose buckets go once round all 32-bit offsets before they part the interval. Modulo
+/// 2^32 they join without a gap, their offsets are multiples of their lengths, which are powers of
+/// two, and their weights add up to the total.
 fn ends(random: &mut Random, shape: Shape, words: &mut [u32]) {
     let round = random.pick(&[2, 2, 4, 8]);
     let count = round + 1;

@@ -40,7 +40,7 @@ pub fn make(book: &mut [u32], k: u32, n: u32, m: u32, g: u32) -> Result<(), Refu
     accepted(unsafe { archive::litres_make(words, len, k, n, m, g) })
 }
 
-/// Moves the clock on; on entering an interval empties the one before the last.
+/// Sets a later or equal clock. Intervals that no window reaches any more are emptied, in every grade.
 pub fn clock(book: &mut [u32], clock: u32) -> Result<(), Refused> {
     let (words, len) = (book.as_mut_ptr(), book.len());
     // SAFETY: as for `make`.

@@ -16,7 +16,7 @@ unfoldable pub openedOf : Opened → Reply
 openedOf (Book s clock) = accepted (valuesOf s ++ clock ∷ [])
 openedOf (Refused r) = refused (numberOf r)
 
--- what it must answer for these words, if this is the number of the first refusal that applies; 0 means that none does
+-- the answer that is due for these words, if this is the number of the first refusal that applies; 0 means that none does
 unfoldable pub judgement : ℕ → List ℕ → Reply
 judgement number ws = cond (eqb number 0) (accepted (valuesOf (shapeOf ws) ++ clockOf ws ∷ [])) (refused number)
 

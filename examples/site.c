@@ -21,21 +21,21 @@ static void print_litres(const char *what, uint64_t decilitres)
     printf("%s: %" PRIu64 ".%" PRIu64 " litres\n", what, decilitres / 10, decilitres % 10);
 }
 
+static void print_refusal(const char *what, uint32_t number)
+{
+    printf("%s: refused %" PRIu32 ", %s\n", what, number, litres_text(number));
+}
+
 static int deliver(const struct delivery *d)
 {
     uint32_t number = litres_delivery(book, WORDS, 0, d->stamp, d->decilitres);
 
-    switch (number) {
-    case LITRES_ACCEPTED:
+    if (number == LITRES_ACCEPTED)
         print_litres(d->what, d->decilitres);
-        return 0;
-    case LITRES_LATE:
-        printf("%s: refused %" PRIu32 ", more than 2^%d seconds late\n", d->what, number, K);
-        return 0;
-    default:
-        printf("%s: refused %" PRIu32 "\n", d->what, number);
-        return 1;
-    }
+    else
+        print_refusal(d->what, number);
+    /* A late delivery is lost, but nothing is wrong with the book or the program. */
+    return number != LITRES_ACCEPTED && number != LITRES_LATE;
 }
 
 static int ask(const char *what, uint32_t window)
@@ -44,7 +44,7 @@ static int ask(const char *what, uint32_t window)
     uint32_t number = litres_query(book, WORDS, 0, window, &sum);
 
     if (number != LITRES_ACCEPTED) {
-        printf("%s: refused %" PRIu32 "\n", what, number);
+        print_refusal(what, number);
         return 1;
     }
     print_litres(what, sum);

@@ -1,41 +1,42 @@
 /*
  * Litres by second for each fuel grade, over a sliding window, fed out of order.
  *
- * Link libcapi.a, which `rt staticlib capi` writes to target/staticlib. The library keeps nothing
- * between calls: everything is in the book, which is the caller's.
+ * Link libcapi.a, which `rt staticlib capi` writes to target/staticlib. The header is C99, C11 and
+ * C++17. The library keeps nothing between calls: everything is in the book, which is the caller's.
  *
  * A tick is one second, a volume is in decilitres. A shape is four numbers:
  *   k, 2 to 20     an interval is 2^k ticks, and so is the longest window
- *   n, 2 to 1024   buckets of a level; more of them make the sums closer
+ *   n, 2 to 1024   the buckets of a level; more of them make the sums closer
  *   m, 1 to 24     at most 2^m decilitres are kept for each grade and interval
- *   g, 1 to 8      grades, numbered from 0 to g - 1
- * A sum is of whole buckets, so it is near the true one and not always equal to it. On a book that
- * only these calls have written since it was made, each lent all its words, and with n above k + 1,
- * it is off by at most 2(k+1)/(n-k-1) of what the accepted deliveries add up to. With k = 20 and
- * n = 441 that is one tenth.
+ *   g, 1 to 8      the grades, which are numbered from 0 to g - 1
  *
- * The book. In every call `book` points to `len` words and
- *   - is aligned for uint32_t and not null, also where len is 0;
- *   - all len words may be read and, but for litres_query, written;
- *   - no other thread uses any of them during the call.
- * Nothing else is asked: each length, each content of the words and each number is answered.
+ * How exact a sum is. A sum adds up whole buckets, so it is near the true sum and not always equal
+ * to it. It is off by at most 2(k+1)/(n-k-1) of what the accepted deliveries in the window add up
+ * to, where n is above k + 1 and only these calls have written the book since it was made, each
+ * given all its words. With k = 20 and n = 441 that is one tenth.
  *
- * Every call but litres_words returns 0 where it was accepted, else the number of the refusal. A
- * refused call changes no word. Where several refusals apply, the call names the first in the order
- * given with it.
+ * The book is an array of 32-bit words in the processor's byte order. It starts with a head of 8
+ * words, which a program may read:
+ *   word 0         k
+ *   word 1         n
+ *   word 2         m
+ *   word 3         g
+ *   word 4         the clock
+ *   words 5 to 7   0
+ * A block of words for each grade follows. There is no pointer in the book, so a copy of its words
+ * is a book as well: a program may store them, and load them on a processor of the same byte order.
  *
- *    1  LITRES_SHAPE        the shape is outside its limits
- *    2  LITRES_LENGTH       too few words for a head, or not as many as the shape needs
- *    3  LITRES_GRADE        the grade is not below g
- *    4  LITRES_VOLUME       the volume is 0 or above 65535
- *    5  LITRES_WINDOW       the window is above 2^k
- *    6  LITRES_CLOCK_LIMIT  the new clock is above 2000000000
- *    7  LITRES_HEAD         the book's first 8 words are unsound
- *    8  LITRES_AHEAD        the stamp is ahead of the clock
- *    9  LITRES_LATE         late: the stamp is more than 2^k ticks behind the clock
- *   10  LITRES_CLOCK_BACK   the new clock is below the clock
- *   11  LITRES_BLOCK        the words of a grade that the call inspects are unsound
- *   12  LITRES_FULL         the interval would hold more than 2^m decilitres of the grade
+ * In every call `book` points to `len` words. The caller must meet these conditions:
+ *   - `book` is aligned for uint32_t and is not null, even where len is 0;
+ *   - all len words may be read and, except in litres_query, written;
+ *   - no other thread writes any of them during the call, nor reads them unless both calls are
+ *     litres_query.
+ * There are no other conditions on it: every length, all words and all numbers get an answer.
+ *
+ * Every call except litres_words returns 0 if it is accepted, else the number of a refusal. A
+ * refused call changes no word. If several refusals apply, the call returns the first one in the
+ * order that stands with it. LITRES_REFUSALS lists the refusals, and litres_text puts a number into
+ * words.
  */
 #ifndef LITRES_H
 #define LITRES_H
@@ -43,29 +44,41 @@
 #include <stddef.h>
 #include <stdint.h>
 
+/*
+ * The version of this header and of the archive that goes with it. As long as MAJOR is 0, MINOR
+ * rises with each change that a caller has to follow, such as another layout of the book.
+ */
+#define LITRES_VERSION_MAJOR 0
+#define LITRES_VERSION_MINOR 1
+#define LITRES_VERSION_PATCH 0
+#define LITRES_VERSION "0.1.0"
+
+/* Each refusal as X(number, name, text), for a program that makes a table of its own from them. */
+#define LITRES_REFUSALS(X)                                                                        \
+    X(1, LITRES_SHAPE, "the shape is outside its limits")                                         \
+    X(2, LITRES_LENGTH, "the number of words is not what the shape needs")                        \
+    X(3, LITRES_GRADE, "there is no such grade")                                                  \
+    X(4, LITRES_VOLUME, "the volume is 0 or above 65535")                                         \
+    X(5, LITRES_WINDOW, "the window is longer than an interval")                                  \
+    X(6, LITRES_CLOCK_LIMIT, "the new clock is above 2000000000")                                 \
+    X(7, LITRES_HEAD, "the first 8 words are not the head of a book")                             \
+    X(8, LITRES_AHEAD, "the stamp is ahead of the clock")                                         \
+    X(9, LITRES_LATE, "late: no window reaches back to the stamp any more")                       \
+    X(10, LITRES_CLOCK_BACK, "the new clock is behind the clock")                                 \
+    X(11, LITRES_BLOCK, "a grade's words are damaged")                                            \
+    X(12, LITRES_FULL, "the interval has no room for the volume")
+
+#define LITRES_ENUMERATOR(number, name, text) name = number,
+enum { LITRES_ACCEPTED = 0, LITRES_REFUSALS(LITRES_ENUMERATOR) };
+#undef LITRES_ENUMERATOR
+
 #ifdef __cplusplus
 extern "C" {
 #endif
 
-enum {
-    LITRES_ACCEPTED = 0,
-    LITRES_SHAPE = 1,
-    LITRES_LENGTH = 2,
-    LITRES_GRADE = 3,
-    LITRES_VOLUME = 4,
-    LITRES_WINDOW = 5,
-    LITRES_CLOCK_LIMIT = 6,
-    LITRES_HEAD = 7,
-    LITRES_AHEAD = 8,
-    LITRES_LATE = 9,
-    LITRES_CLOCK_BACK = 10,
-    LITRES_BLOCK = 11,
-    LITRES_FULL = 12
-};
-
 /*
- * How many words a book of this shape needs: 8 + g (2 + 2 (m + 1) (2 + 3 n)), or 0 where the shape
- * is outside its limits.
+ * How many words a book of this shape needs: 8 + g (2 + 2 (m + 1) (2 + 3 n)), or 0 if the shape is
+ * outside its limits.
  */
 size_t litres_words(uint32_t k, uint32_t n, uint32_t m, uint32_t g);
 
@@ -76,26 +89,27 @@ size_t litres_words(uint32_t k, uint32_t n, uint32_t m, uint32_t g);
 uint32_t litres_make(uint32_t *book, size_t len, uint32_t k, uint32_t n, uint32_t m, uint32_t g);
 
 /*
- * Sets a later or equal clock. What lies in intervals that no window reaches any more is emptied,
- * in every grade. Every grade's words are inspected.
+ * Sets a later or equal clock. Intervals that no window reaches any more are emptied, in every
+ * grade. Every grade's words are inspected.
  * Refused, in this order: 2 (under 8 words), 7, 2, 6, 10, 11.
  */
 uint32_t litres_clock(uint32_t *book, size_t len, uint32_t clock);
 
 /*
  * Records `volume` decilitres of a grade at tick `stamp`, which may lie up to 2^k ticks behind the
- * clock, in any order. Of the grades' words only this one's are inspected or changed.
+ * clock. Deliveries may come in any order. Of the grades' words only this one's are inspected or
+ * changed.
  * Refused, in this order: 2 (under 8 words), 7, 2, 3, 4, 8, 9, 11, 12.
  */
 uint32_t litres_delivery(uint32_t *book, size_t len, uint32_t grade, uint32_t stamp,
                          uint32_t volume);
 
 /*
- * Writes to *sum the histogram's sum for a grade, in decilitres, of the stamps from clock - window to
- * clock, both included, from 0 where the window exceeds the clock. How near it is to the true sum is
- * said above. No word of the book changes. Of the grades' words only this one's are inspected.
- * `sum` points to a uint64_t that may be written and must not point into the book. Where the call
- * is refused, *sum is not written.
+ * Writes to *sum the book's sum for a grade, in decilitres, of the stamps from clock - window to
+ * clock, both included, or from 0 if the window exceeds the clock. How exact it is stands above. No
+ * word of the book changes. Of the grades' words only this one's are inspected.
+ * `sum` must point to a uint64_t that may be written and that lies outside the book. A refused call
+ * does not write it.
  * Refused, in this order: 2 (under 8 words), 7, 2, 3, 5, 11.
  */
 uint32_t litres_query(const uint32_t *book, size_t len, uint32_t grade, uint32_t window,
@@ -104,5 +118,24 @@ uint32_t litres_query(const uint32_t *book, size_t len, uint32_t grade, uint32_t
 #ifdef __cplusplus
 }
 #endif
+
+/* What a number that a call returned means, for a screen or a log. */
+#ifdef __GNUC__
+__attribute__((unused))
+#endif
+static inline const char *litres_text(uint32_t number)
+{
+#define LITRES_CASE(value, name, text) \
+    case value:                        \
+        return text;
+    switch (number) {
+    case 0:
+        return "accepted";
+        LITRES_REFUSALS(LITRES_CASE)
+    default:
+        return "no call returns this number";
+    }
+#undef LITRES_CASE
+}
 
 #endif

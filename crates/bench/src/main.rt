@@ -1,4 +1,4 @@
-// The calls over standard input, one to a line, and their answers over standard output.
+// The bench program (SPECIFICATION 11): calls over standard input, one to a line, and their answers over standard output.
 use libc::STDIN_FILENO;
 use libc::STDOUT_FILENO;
 ghost use mathlib.Core.Path.{_≡_};
@@ -6,7 +6,7 @@ ghost use Prim.Native.Nat.{_*_, _≤_, _<_};
 ghost use lib.ListN.{length};
 ghost use Rattle.session.specs.Protocol.{zeroBuffer};
 
-// Writes out what waits.
+// Writes out the bytes that wait.
 fn write_out(out: &[u8], used: usize)
     requires { ⌜ used ≤ length (now out) ⌝ }
 {
@@ -21,8 +21,8 @@ fn turns_after(turns: u64, n: usize) -> u64
     if n == 0 { 0 } else { turns - 1 }
 }
 
-// What waits is written out before each read, so that each line is answered once it is read. A byte adds at most 32 bytes to what
-// waits. A proved loop has to end, so this one counts its turns down from a number that no input uses up.
+// The waiting bytes are written out before each read, so each line is answered when it has been read. A byte of input adds at most 32 bytes
+// to them. A proved loop has to end, so this one counts its turns down from a number that no input uses up.
 fn serve(book: &mut [u32], out: &mut [u8], chunk: &mut [u8])
     requires { ⌜ (now book ≡ zeroBuffer) × (32 ≤ length (now out)) × (32 * length (now chunk) ≤ length (now out)) ⌝ }
 {

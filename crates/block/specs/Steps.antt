@@ -1,9 +1,9 @@
--- One level of a block as the code reads it, and the loops over levels one turn at a time. Assumes nothing.
+-- One level of a block as the code reads it, and the loops over levels, one turn at a time. Assumes nothing.
 use mathlib.Core.Bool.{Bool, true, false, cond, _&&_}
 use mathlib.Core.List.{List, _∷_}
 use mathlib.Core.Path.{_≡_, ap, _∙_}
 use Prim.Native.Nat.{ℕ, suc, _+_, _-_, _*_, _%_, _^_, _≤_, _<_}
-use native.Mathlib.Nat.{sub-zero, mul-le-mul-right}
+use native.Mathlib.Nat.{zero-add, sub-zero, mul-le-mul-right}
 use native.Mathlib.Numerals.{add-one}
 use native.Mathlib.Omega.{arith}
 use lib.ListN.{length, getD}
@@ -11,31 +11,32 @@ use lib.Pow.{pow-pos, pow-mono}
 use lib.Dec.{eqb}
 use borrow.Author.Tests.{le-leb, lt-leb}
 use Rattle.shape.specs.declared.Shape.{Shape}
-use Rattle.shape.specs.Layout.{levelWords, levelStart}
+use Rattle.shape.specs.Layout.{totalStart, levelWords, levelStart}
 use Rattle.shape.specs.LayoutLaws.{blockWords-bits}
 use Rattle.model.specs.Level.{Level}
-use Rattle.model.specs.Block.{upFrom, interval, offsetOf, sumFrom, serving, answer}
+use Rattle.model.specs.Block.{upFrom, interval, offsetOf, sumFrom, serving, servingIndex, answer}
 use Rattle.model.specs.Words.{levelPart, decodeLevel, decodeHalf, decodeBlock}
 use Rattle.model.specs.Sound.{allFrom, soundLevel, soundHalf}
 use Rattle.scan.specs.Steps.{sumFrom-zero}
-use Rattle.laws.specs.Tally.{sumFrom-falls}
-use Rattle.laws.specs.SoundFacts.{slots-length}
-use Rattle.laws.specs.Kept.{sound-serves}
+use Rattle.laws.specs.SumFrom.{sumFrom-falls}
+use Rattle.laws.specs.InsertSound.{sound-serves}
+use Rattle.laws.specs.BlockSound.{serving-index}
+use Rattle.laws.specs.LevelWords.{length-slots}
 use Rattle.laws.specs.BlockWords.{levelStart-fits}
-use Rattle.laws.specs.Halves.{halfOf-decode, total-decode, whole-total, whole-level}
+use Rattle.laws.specs.HalfWrites.{halfOf-decode, total-decode, whole-total, whole-level}
 use Rattle.laws.specs.Proper.{Sized, Whole}
 
--- level i of the half of a parity has its place in the words of a block
+-- the words of a block have room for level i, in the half of a parity
 pub record LevelIn (s : Shape) (parity i : ℕ) (ws : List ℕ) : Type 0 where
   pub sized : Sized s ws
   pub half : parity ≤ 1
   pub index : i ≤ s .last
 
--- its part ends within the words, of which there are few
+-- the level ends within the words, and they are fewer than 2 ^ 29
 pub level-within : {s : Shape} {parity i : ℕ} {ws : List ℕ} → LevelIn s parity i ws → (levelStart s parity i + levelWords s ≤ length ws) × (length ws < 2 ^ 29)
 level-within {s} {parity} {i} w = omega (arith, levelStart-fits s parity i (w .half) (w .index), blockWords-bits s (omega arith) (omega arith))
 
--- level i of the half of a parity
+-- level i, in the half of a parity
 abbrev pub levelAt : Shape → ℕ → List ℕ → ℕ → Level
 levelAt s parity ws i = decodeLevel (levelPart s parity i ws)
 
@@ -45,9 +46,9 @@ levelsFrom s parity ws i = upFrom (levelAt s parity ws) i (suc (s .last) - i)
 
 -- whether level i is sound
 abbrev pub soundAt : Shape → ℕ → List ℕ → ℕ → Bool
-soundAt s parity ws i = soundLevel s i (getD ws parity 0) (levelPart s parity i ws)
+soundAt s parity ws i = soundLevel s i (getD ws (totalStart parity) 0) (levelPart s parity i ws)
 
--- whether the levels from level i on are
+-- whether the levels from level i on are sound
 abbrev pub soundFrom : Shape → ℕ → List ℕ → ℕ → Bool
 soundFrom s parity ws i = allFrom (soundAt s parity ws) i (suc (s .last) - i)
 
@@ -56,18 +57,19 @@ module _ (s : Shape) (parity : ℕ) (ws : List ℕ) (i : ℕ) where
     count : suc (s .last) - i ≡ suc (suc (s .last) - (i + 1))
     count = omega arith
 
-    pub levelsFrom-step : levelsFrom s parity ws i ≡ levelAt s parity ws i ∷ levelsFrom s parity ws (i + 1)
+    levelsFrom-step : levelsFrom s parity ws i ≡ levelAt s parity ws i ∷ levelsFrom s parity ws (i + 1)
     levelsFrom-step = ap (upFrom (levelAt s parity ws) i) count ∙ rw (← add-one i)
 
     pub soundFrom-step : soundFrom s parity ws i ≡ (soundAt s parity ws i && soundFrom s parity ws (i + 1))
     soundFrom-step = ap (allFrom (soundAt s parity ws) i) count ∙ rw (← add-one i)
 
-    -- the level serves what lies at its first kept offset or above
-    pub serving-here : (a : ℕ) → levelAt s parity ws i .first ≤ a → levelAt s parity ws i ≡ serving a (levelsFrom s parity ws i)
-    serving-here a h = rw (levelsFrom-step, le-leb (levelAt s parity ws i .first) a h)
+    -- a level serves offsets from its F on, and leaves those below to the next level
+    pub index-here : (a : ℕ) → levelAt s parity ws i .first ≤ a → servingIndex a (levelsFrom s parity ws i) ≡ 0
+    index-here a h = rw (levelsFrom-step, le-leb (levelAt s parity ws i .first) a h)
 
-    pub serving-next : (a : ℕ) → a < levelAt s parity ws i .first → serving a (levelsFrom s parity ws (i + 1)) ≡ serving a (levelsFrom s parity ws i)
-    serving-next a h = rw (levelsFrom-step, lt-leb (levelAt s parity ws i .first) a h)
+    pub index-next : (a : ℕ) → a < levelAt s parity ws i .first
+        → servingIndex a (levelsFrom s parity ws i) ≡ suc (servingIndex a (levelsFrom s parity ws (i + 1)))
+    index-next a h = rw (levelsFrom-step, lt-leb (levelAt s parity ws i .first) a h)
 
   pub soundFrom-none : s .last < i → soundFrom s parity ws i ≡ true
   soundFrom-none h = ap (allFrom (soundAt s parity ws) i) {x = suc (s .last) - i} {y = 0} (omega arith)
@@ -78,25 +80,25 @@ module _ (s : Shape) (parity : ℕ) (ws : List ℕ) where
   unfolding decodeHalf
   levelsFrom-all = rw sub-zero
 
-  pub soundFrom-all : getD ws parity 0 ≤ 2 ^ s .m → soundFrom s parity ws 0 ≡ soundHalf s parity ws
+  pub soundFrom-all : getD ws (totalStart parity) 0 ≤ 2 ^ s .m → soundFrom s parity ws 0 ≡ soundHalf s parity ws
   unfolding soundHalf
-  soundFrom-all h = rw (le-leb (getD ws parity 0) (2 ^ s .m) h, sub-zero)
+  soundFrom-all h = rw (le-leb (getD ws (totalStart parity) 0) (2 ^ s .m) h, sub-zero)
 
-  -- a half that holds too much
-  pub soundHalf-over : 2 ^ s .m < getD ws parity 0 → false ≡ soundHalf s parity ws
+  -- a half with too large a total is unsound
+  pub soundHalf-over : 2 ^ s .m < getD ws (totalStart parity) 0 → false ≡ soundHalf s parity ws
   unfolding soundHalf
-  soundHalf-over h = rw (lt-leb (getD ws parity 0) (2 ^ s .m) h)
+  soundHalf-over h = rw (lt-leb (getD ws (totalStart parity) 0) (2 ^ s .m) h)
 
 module _ (s : Shape) (ws : List ℕ) (w : Whole s ws) (parity : ℕ) (p : parity ≤ 1) where
-  -- the count of a level fits
+  -- the count of a level is at most n
   pub count-few : (i : ℕ) → i ≤ s .last → getD (levelPart s parity i ws) 0 0 ≤ s .n
   unfolding decodeLevel
   count-few i low =
       let part : List ℕ = levelPart s parity i ws in
-      omega (arith, whole-level s ws w parity p i low .few, slots-length part 0 (getD part 0 0))
+      omega (arith, whole-level s ws w parity p i low .few, length-slots part 0 (getD part 0 0))
 
   -- totals and sums are small
-  pub total-small : getD ws parity 0 ≤ 2 ^ 24
+  pub total-small : getD ws (totalStart parity) 0 ≤ 2 ^ 24
   total-small = omega (arith, whole-total s ws w parity p, pow-mono {i = s .m} {j = 24} (omega arith))
 
   pub sum-small : (i : ℕ) → i ≤ s .last → (a : ℕ) → sumFrom a (levelAt s parity ws i .buckets) ≤ 2 ^ 24
@@ -104,15 +106,24 @@ module _ (s : Shape) (ws : List ℕ) (w : Whole s ws) (parity : ℕ) (p : parity
       let bs = levelAt s parity ws i .buckets in
       omega (arith, whole-level s ws w parity p i low .within, total-small, sumFrom-falls bs 0 a (omega arith), sumFrom-zero bs)
 
-  -- the last level has given nothing up, so it serves every offset
-  pub last-serves : (a : ℕ) → levelAt s parity ws (s .last) ≡ serving a (levelsFrom s parity ws (s .last))
-  last-serves a =
-      let l : Level = levelAt s parity ws (s .last) in
+  -- the last level has evicted nothing, so it serves every offset
+  last-first : levelAt s parity ws (s .last) .first ≡ 0
+  last-first =
       let same = ap (λ (z : ℕ). 2 ^ z) (w .proper .last) in
-      let small : getD ws parity 0 < s .n * 2 ^ s .last =
+      let small : getD ws (totalStart parity) 0 < s .n * 2 ^ s .last =
       omega (arith, whole-total s ws w parity p, pow-pos (s .last), mul-le-mul-right {m = 2} {n = s .n} (2 ^ s .last) (w .proper .limits .low-n)) in
-      let whole : l .first ≡ 0 = sound-serves (w .proper .limits .low-n) (whole-level s ws w parity p (s .last) (omega arith)) small in
-      serving-here s parity ws (s .last) (omega arith) a (omega arith)
+      sound-serves (w .proper .limits .low-n) (whole-level s ws w parity p (s .last) (omega arith)) small
+
+  pub last-index : (a : ℕ) → servingIndex a (levelsFrom s parity ws (s .last)) ≡ 0
+  last-index a = index-here s parity ws (s .last) (omega arith) a (omega (arith, last-first))
+
+  -- the serving index is that of a level of the half, and this level serves
+  pub index-serves : (a : ℕ) → let levels = decodeHalf s parity ws .levels in
+      (servingIndex a levels ≤ s .last) × (levelAt s parity ws (servingIndex a levels) ≡ serving a levels)
+  unfolding decodeHalf
+  index-serves a =
+      let r = serving-index a (levelAt s parity ws) (s .last) 0 (rw zero-add last-first) in
+      (r .0, rw zero-add at (r .1))
 
 -- the answer, read from the words
 pub answer-decode : (s : Shape) (clock start : ℕ) (ws : List ℕ) → answer s clock start (decodeBlock s ws) ≡ (

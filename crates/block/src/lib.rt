@@ -1,4 +1,4 @@
-// One grade's block read, on its part of the words: its soundness, its room, its sums.
+// Reading one grade's block, on its part of the words: its soundness, its room, its sums.
 use shape::Shape;
 use stamp::interval;
 use stamp::offset;
@@ -8,12 +8,12 @@ ghost use Prim.Native.Nat.{_+_, _%_, _^_, _≤_};
 ghost use lib.Dec.{ltb};
 ghost use lib.ListN.{length, getD};
 ghost use Rattle.model.specs.Words.{levelPart, decodeHalf, decodeBlock};
-ghost use Rattle.model.specs.Block.{interval, halfOf, serving, answer};
+ghost use Rattle.model.specs.Block.{interval, halfOf, servingIndex, answer};
 ghost use Rattle.model.specs.Sound.{soundHalf, soundBlock};
 ghost use Rattle.laws.specs.Proper.{Sized, Whole};
-ghost use Rattle.block.specs.Steps.{LevelIn, levelAt};
+ghost use Rattle.block.specs.Steps.{LevelIn};
 
-// What a half holds at most.
+// How many decilitres a half takes at most.
 fn capacity(s: Shape) -> u64
     requires { ⌜ s .m ≤ 31 ⌝ }
     ensures { λ r. ⌜ r ≡ 2 ^ s .m ⌝ }
@@ -21,7 +21,7 @@ fn capacity(s: Shape) -> u64
     1 << s.m
 }
 
-// The words of a level of the half of a parity.
+// The words of a level, in the half of a parity.
 fn level_at(block: &[u32], s: Shape, parity: u8, i: u8) -> &[u32]
     requires { ⌜ LevelIn s parity i (now block) ⌝ }
     ensures { λ r. ⌜ now r ≡ levelPart s parity i (now (block .entry)) ⌝ }
@@ -79,10 +79,10 @@ pub fn check(block: &[u32], s: Shape) -> bool
     check_half(block, s, 1)
 }
 
-// The finest level of a half that still covers offset a. The last one always does, so it is not asked.
+// The finest level of a half whose F is at most a. The last level has F = 0, so it is not tested.
 fn finest(block: &[u32], s: Shape, parity: u8, a: u32) -> u8
     requires { ⌜ Whole s (now block) × (parity ≤ 1) ⌝ }
-    ensures { λ r. ⌜ (r ≤ s .last) × (levelAt s parity (now (block .entry)) r ≡ serving a (decodeHalf s parity (now (block .entry)) .levels)) ⌝ }
+    ensures { λ r. ⌜ r ≡ servingIndex a (decodeHalf s parity (now (block .entry)) .levels) ⌝ }
 {
     let mut finest: u8 = 0;
     while finest < s.last {

@@ -1,4 +1,4 @@
--- What the part of a book for a grade asks. Rests on the laws of the layout.
+-- What the part of a book for a grade requires. Rests on the laws of the layout.
 use mathlib.Core.Path.{_≡_}
 use mathlib.Core.List.{List}
 use Prim.Native.Nat.{ℕ, _+_, _≤_, _<_}
@@ -9,7 +9,7 @@ use Rattle.shape.specs.Layout.{bookWords, blockWords, blockStart}
 use Rattle.laws.specs.Proper.{Proper}
 use Rattle.laws.specs.BookWords.{blockStart-fits}
 
--- a grade of a book of this shape
+-- the grade is one of a book of this shape
 pub record InBook (s : Shape) (grade : ℕ) (ws : List ℕ) : Type 0 where
   pub proper : Proper s
   pub size : length ws ≡ bookWords s

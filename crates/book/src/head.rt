@@ -1,16 +1,19 @@
-// The head of a book: its shape and its clock, or why the call is refused.
+// The head of a book: its shape and its clock, or why the call is refused. SPECIFICATION 3.2 and 7.1.
 use model::Refusal;
 use shape::Checked;
+use shape::HEAD_LEN;
 use shape::Shape;
 ghost use mathlib.Core.Path.{_≡_};
 ghost use Prim.Native.Nat.{_≤_};
 ghost use lib.ListN.{length};
-ghost use Rattle.book.specs.Head.{Opens, Shaped, isBlank};
+ghost use Rattle.shape.specs.Layout.{headLen};
+ghost use Rattle.book.specs.Judgement.{openedOf, judgement, openedNumber};
+ghost use Rattle.book.specs.Head.{Shaped, isBlank};
 
-// The clock goes no further.
+// The largest clock.
 pub const MAX_CLOCK: u32 = 2000000000;
 
-// What the first words of a book tell, or judging a call: the shape and the clock of the book, or the refusal.
+// What opening a book, or judging a call, answers: the shape and the clock of the book, or the refusal.
 pub enum Opened {
     Book { shape: Shape, clock: u32 },
     Refused(Refusal),
@@ -18,7 +21,7 @@ pub enum Opened {
 
 // Whether the last three words of the head are zero.
 fn is_blank(book: &[u32]) -> bool
-    requires { ⌜ 8 ≤ length (now book) ⌝ }
+    requires { ⌜ headLen ≤ length (now book) ⌝ }
     ensures { λ r. ⌜ r ≡ isBlank (now (book .entry)) ⌝ }
 {
     if book[5] != 0 {
@@ -30,10 +33,10 @@ fn is_blank(book: &[u32]) -> bool
     book[7] == 0
 }
 
-// A book of this shape: its clock, the last words of its head and its length are looked at.
+// A book of this shape: tests its clock, the last words of its head and its length.
 fn with_shape(book: &[u32], shape: Shape) -> Opened
     requires { ⌜ Shaped (now book) shape ⌝ }
-    ensures { λ r. ⌜ Opens (now (book .entry)) r ⌝ }
+    ensures { λ r. ⌜ openedOf r ≡ judgement (openedNumber (now (book .entry))) (now (book .entry)) ⌝ }
 {
     let clock = book[4];
     let blank = is_blank(book);
@@ -50,11 +53,11 @@ fn with_shape(book: &[u32], shape: Shape) -> Opened
     }
 }
 
-// Words of any length and content.
+// Opens words of any length and content.
 pub fn open(book: &[u32]) -> Opened
-    ensures { λ r. ⌜ Opens (now (book .entry)) r ⌝ }
+    ensures { λ r. ⌜ openedOf r ≡ judgement (openedNumber (now (book .entry))) (now (book .entry)) ⌝ }
 {
-    if book.len() < 8 {
+    if book.len() < HEAD_LEN {
         return Opened::Refused(Refusal::Length);
     }
     match Shape::new(book[0], book[1], book[2], book[3]) {

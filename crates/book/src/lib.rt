@@ -1,4 +1,4 @@
-// A book, read: its head, and its blocks as parts of it.
+// Reading a book: its head, and its blocks as parts of it.
 mod head;
 mod part;
 

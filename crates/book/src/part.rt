@@ -1,4 +1,4 @@
-// The blocks of a book, each handed on as that part of it.
+// The blocks of a book, each handed on as a part of it.
 use shape::Shape;
 ghost use mathlib.Core.Path.{_≡_};
 ghost use Prim.Native.Nat.{_+_, _^_};
@@ -29,7 +29,7 @@ pub fn block_sound(book: &[u32], s: Shape, grade: u32) -> bool
     block::check(block_at(book, s, grade), s)
 }
 
-// Whether the half of a grade for the interval of a stamp has no room for a volume.
+// Whether a grade's half for the interval of a stamp has no room for a volume.
 pub fn block_full(book: &[u32], s: Shape, grade: u32, stamp: u32, volume: u32) -> bool
     requires { ⌜ InBook s grade (now book) ⌝ }
     ensures { λ r. ⌜ r ≡ ltb (2 ^ s .m) (halfOf (interval s stamp) (decodeBlock s (blockPart s grade (now (book .entry)))) .total + volume) ⌝ }

@@ -1,4 +1,6 @@
-// Putting buckets into the slots of one level, and splitting them: where there is no room the lowest is given up.
+// Putting buckets into the slots of one level, and splitting them. If there is no room, the lowest bucket is evicted.
+use shape::LEVEL_HEAD_LEN;
+use shape::SLOT_LEN;
 use words::long;
 use words::power;
 use words::wide;
@@ -8,33 +10,34 @@ ghost use mathlib.Core.Path.{_≡_};
 ghost use Prim.Native.Nat.{_+_, _-_, _*_, _/_, _^_, _<_, _≤_};
 ghost use lib.Dec.{eqb};
 ghost use lib.ListN.{length, getD, set};
+ghost use Rattle.shape.specs.Layout.{levelHeadLen, slotLen, slotStart};
 ghost use Rattle.model.specs.Level.{bucketOf};
 ghost use Rattle.model.specs.Words.{slot};
-ghost use Rattle.laws.specs.Buckets.{halves};
-ghost use Rattle.laws.specs.Moves.{raise, lower, putSlot};
+ghost use Rattle.laws.specs.Bucket.{halves};
+ghost use Rattle.laws.specs.SlotWrites.{raise, lower, putSlot};
 ghost use Rattle.buckets.specs.Steps.{Takes, Becomes};
 
-// Writes m words from `from` on again one slot above.
+// Moves m words, from `from` on, up by one slot.
 fn raise_words(level: &mut [u32], from: usize, m: usize)
-    requires { ⌜ from + 3 + m ≤ length (now level) ⌝ }
+    requires { ⌜ from + slotLen + m ≤ length (now level) ⌝ }
     ensures { λ _. ⌜ now (level .exit) ≡ raise (now (level .entry)) from m ⌝ }
 {
     let mut i = m;
     while 0 < i {
         i -= 1;
         let w = level[from + i];
-        level[from + 3 + i] = w;
+        level[from + SLOT_LEN + i] = w;
     }
 }
 
-// Writes m words from the slot above `from` on again one slot below.
+// Moves m words, from the slot after `from` on, down by one slot.
 fn lower_words(level: &mut [u32], from: usize, m: usize)
-    requires { ⌜ from + 3 + m ≤ length (now level) ⌝ }
+    requires { ⌜ from + slotLen + m ≤ length (now level) ⌝ }
     ensures { λ _. ⌜ now (level .exit) ≡ lower (now (level .entry)) from m ⌝ }
 {
     let mut i = 0;
     while i < m {
-        let w = level[from + 3 + i];
+        let w = level[from + SLOT_LEN + i];
         level[from + i] = w;
         i += 1;
     }
@@ -42,7 +45,7 @@ fn lower_words(level: &mut [u32], from: usize, m: usize)
 
 // Stores the words of a bucket from `at` on.
 fn put_slot(level: &mut [u32], at: usize, offset: u32, width: u32, weight: u32)
-    requires { ⌜ at + 3 ≤ length (now level) ⌝ }
+    requires { ⌜ at + slotLen ≤ length (now level) ⌝ }
     ensures { λ _. ⌜ now (level .exit) ≡ putSlot (now (level .entry)) at (bucketOf offset width weight) ⌝ }
 {
     level[at] = offset;
@@ -50,38 +53,38 @@ fn put_slot(level: &mut [u32], at: usize, offset: u32, width: u32, weight: u32)
     level[at + 2] = weight;
 }
 
-// The bucket of slot j gains v.
+// The weight of the bucket in slot j grows by v.
 pub fn gain(level: &mut [u32], j: usize, v: u64)
-    requires { ⌜ (5 + 3 * j ≤ length (now level)) × (slot (now level) j .weight + v < 2 ^ 32) ⌝ }
-    ensures { λ _. ⌜ now (level .exit) ≡ set (now (level .entry)) (2 + 3 * j + 2) (slot (now (level .entry)) j .weight + v) ⌝ }
+    requires { ⌜ (slotStart (j + 1) ≤ length (now level)) × (slot (now level) j .weight + v < 2 ^ 32) ⌝ }
+    ensures { λ _. ⌜ now (level .exit) ≡ set (now (level .entry)) (slotStart j + 2) (slot (now (level .entry)) j .weight + v) ⌝ }
 {
-    let at = 2 + 3 * j;
+    let at = LEVEL_HEAD_LEN + SLOT_LEN * j;
     let weight = long(level[at + 2]);
     level[at + 2] = (weight + v) as u32;
 }
 
-// Puts a bucket in at slot j of `count`: the slots from j on move one up.
+// Puts a bucket into slot j of `count` slots: the slots from j on move up by one.
 fn put_in(level: &mut [u32], j: usize, count: usize, offset: u32, width: u32, weight: u32)
-    requires { ⌜ (j ≤ count) × (5 + 3 * count ≤ length (now level)) × (count < 1024) ⌝ }
+    requires { ⌜ (j ≤ count) × (slotStart (count + 1) ≤ length (now level)) × (count < 1024) ⌝ }
     ensures { λ _. ⌜ now (level .exit)
-        ≡ set (putSlot (raise (now (level .entry)) (2 + 3 * j) (3 * (count - j))) (2 + 3 * j) (bucketOf offset width weight)) 0 (count + 1) ⌝ }
+        ≡ set (putSlot (raise (now (level .entry)) (slotStart j) (slotLen * (count - j))) (slotStart j) (bucketOf offset width weight)) 0 (count + 1) ⌝ }
 {
-    let at = 2 + 3 * j;
-    raise_words(level, at, 3 * (count - j));
+    let at = LEVEL_HEAD_LEN + SLOT_LEN * j;
+    raise_words(level, at, SLOT_LEN * (count - j));
     put_slot(level, at, offset, width, weight);
     level[0] = (count + 1) as u32;
 }
 
-// Takes the lowest bucket out and puts another in at slot j: the slots up to j move one down.
+// Drops the lowest bucket and puts another into slot j: the slots up to j move down by one.
 fn shift_in(level: &mut [u32], j: usize, offset: u32, width: u32, weight: u32)
-    requires { ⌜ 5 + 3 * j ≤ length (now level) ⌝ }
-    ensures { λ _. ⌜ now (level .exit) ≡ putSlot (lower (now (level .entry)) 2 (3 * j)) (2 + 3 * j) (bucketOf offset width weight) ⌝ }
+    requires { ⌜ slotStart (j + 1) ≤ length (now level) ⌝ }
+    ensures { λ _. ⌜ now (level .exit) ≡ putSlot (lower (now (level .entry)) levelHeadLen (slotLen * j)) (slotStart j) (bucketOf offset width weight) ⌝ }
 {
-    lower_words(level, 2, 3 * j);
-    put_slot(level, 2 + 3 * j, offset, width, weight);
+    lower_words(level, LEVEL_HEAD_LEN, SLOT_LEN * j);
+    put_slot(level, LEVEL_HEAD_LEN + SLOT_LEN * j, offset, width, weight);
 }
 
-// F once the lowest bucket of level i, at `offset`, is given up, where the next one stands at `next`.
+// F after the lowest bucket of level i was evicted: it was at `offset`, and the next one is at `next`.
 fn first_after(i: u8, offset: u32, next: u32) -> u32
     requires { ⌜ offset < 2 ^ 31 ⌝ }
     ensures { λ r. ⌜ r ≡ cond (eqb i 0) (offset + 1) next ⌝ }
@@ -89,8 +92,8 @@ fn first_after(i: u8, offset: u32, next: u32) -> u32
     if i == 0 { offset + 1 } else { next }
 }
 
-// Puts a bucket in at slot j of level i. Where there is no room the lowest is given up, which may be the new one itself. Returns the
-// slot after the new one's.
+// Puts a bucket into slot j of level i. If there is no room the lowest bucket is evicted, which may be the new one itself. Returns the slot
+// after the new one's.
 pub fn put_at(
     level: &mut [u32],
     n: usize,
@@ -118,13 +121,13 @@ pub fn put_at(
     j
 }
 
-// Makes the bucket of slot j two halves at level i. Where there is no room the lowest bucket is given up, which may be the lower
-// half. Returns the upper half's slot.
+// Splits the bucket of slot j of level i. If there is no room the lowest bucket is evicted, which may be the lower half. Returns the upper
+// half's slot.
 pub fn split_at(level: &mut [u32], n: usize, i: u8, j: usize, half: u32) -> usize
     requires { ⌜ Takes n j (now level) × (j < getD (now level) 0 0) × (half ≡ slot (now level) j .width / 2) × (slot (now level) j .offset + half < 2 ^ 31) × (i ≤ 31) ⌝ }
     ensures { λ r. ⌜ Becomes n i j (slot (now (level .entry)) j ∷ []) (halves i (slot (now (level .entry)) j)) (now (level .entry)) (now (level .exit)) r ⌝ }
 {
-    let at = 2 + 3 * j;
+    let at = LEVEL_HEAD_LEN + SLOT_LEN * j;
     let offset = level[at];
     let weight = power(i);
     put_slot(level, at, offset + half, half, weight);

@@ -1,4 +1,4 @@
--- What is told of an answer is what is told of its outcome. Assumes nothing.
+-- What a caller gets of an answer is what it gets of the outcome. Assumes nothing.
 use mathlib.Core.Path.{_≡_, ap, _∙_}
 use mathlib.Core.List.{List}
 use Prim.Native.Nat.{ℕ}

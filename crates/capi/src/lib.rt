@@ -1,4 +1,5 @@
-// The calls for programs in C and Rust. Each takes a book as a pointer and a length, and answers 0 or the number of the refusal.
+// The calls for programs in C and Rust: SPECIFICATION 12. Each takes a book as a pointer and a length, and returns 0 or the number of the
+// refusal.
 use model::Answer;
 use shape::Checked;
 use shape::Shape;
@@ -11,7 +12,7 @@ ghost use Rattle.model.specs.Reply.{replyOf};
 ghost use Rattle.model.specs.Calls.{perform};
 ghost use Rattle.capi.specs.Told.{codeOf, sumOf};
 
-// The words that a book of this shape needs; 0 where the shape is outside its limits.
+// How many words a book of this shape needs; 0 if the shape is outside its limits.
 #[no_mangle]
 pub extern "C" fn litres_words(k: u32, n: u32, m: u32, g: u32) -> usize
     ensures { λ r. ⌜ r ≡ cond (within k n m g) (bookWords (shaped k n m g)) 0 ⌝ }
@@ -53,7 +54,7 @@ pub extern "C" fn litres_delivery(book: &mut [u32], grade: u32, stamp: u32, volu
     code(summary::delivery(book, grade, stamp, volume))
 }
 
-// The sum's place is written only where the question is answered.
+// `sum` is written only if the question is answered.
 #[no_mangle]
 pub extern "C" fn litres_query(book: &[u32], grade: u32, window: u32, sum: &mut u64) -> u32
     ensures { λ r. ⌜ (r, now (sum .exit)) ≡ sumOf (perform (now (book .entry)) (Call.Query grade window) .reply) (now (sum .entry)) ⌝ }

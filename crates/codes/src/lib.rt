@@ -1,4 +1,4 @@
-// Document 01's number of a refusal, for what prints it and for what hands it on.
+// The number of a refusal (SPECIFICATION 6.2), used by `text` and `capi`.
 use model::Refusal;
 ghost use mathlib.Core.Path.{_≡_};
 ghost use Rattle.model.specs.Reply.{numberOf};

@@ -1,4 +1,4 @@
-// One grade's block emptied, on its part of the words: whole, or the halves that the clock empties.
+// Emptying one grade's block, on its part of the words: the whole block, or the halves that the clock empties.
 use shape::Shape;
 use stamp::interval;
 use stamp::parity;
@@ -11,7 +11,7 @@ ghost use Rattle.model.specs.Words.{decodeBlock, encodeBlock};
 ghost use Rattle.model.specs.Block.{emptyHalf, advance};
 ghost use Rattle.laws.specs.Proper.{Sized, Whole};
 ghost use Rattle.laws.specs.BlockWrites.{withLevel};
-ghost use Rattle.laws.specs.Halves.{emptyWords, emptied};
+ghost use Rattle.laws.specs.HalfWrites.{emptyWords, emptied};
 ghost use Rattle.block.specs.Steps.{LevelIn};
 
 fn zero(words: &mut [u32])
@@ -69,7 +69,7 @@ pub fn clear(block: &mut [u32], s: Shape)
     clear_half(block, s, 1);
 }
 
-// Empties the halves that the clock empties as it goes from one tick to another.
+// Empties the halves that the clock empties when it goes from one tick to another: SPECIFICATION 5.3.
 pub fn advance(block: &mut [u32], s: Shape, old: u32, new: u32)
     requires { ⌜ Whole s (now block) ⌝ }
     ensures { λ _. ⌜ now (block .exit) ≡ encodeBlock s (advance s old new (decodeBlock s (now (block .entry)))) ⌝ }

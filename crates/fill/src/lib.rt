@@ -1,4 +1,4 @@
-// A delivery into one block, level by level, each handed on as that part of the block.
+// A delivery into one block: each level of the stamp's half is handed on as a part of the block.
 use shape::Shape;
 use words::long;
 ghost use mathlib.Core.Path.{_≡_};
@@ -6,13 +6,13 @@ ghost use Rattle.model.specs.Level.{insert};
 ghost use Rattle.model.specs.Block.{deliver};
 ghost use Rattle.model.specs.Words.{levelPart, decodeLevel, encodeLevel, decodeBlock, encodeBlock};
 ghost use Rattle.laws.specs.BlockWrites.{withLevel};
-ghost use Rattle.laws.specs.Proper.{Open};
+ghost use Rattle.laws.specs.Proper.{Insertable};
 ghost use Rattle.block.specs.Steps.{LevelIn};
-ghost use Rattle.fill.specs.Fill.{Takes, Fills};
+ghost use Rattle.fill.specs.Fill.{Deliverable, Fills};
 
-// Inserts into one level in its place.
+// Inserts into one level, in its place in the block.
 fn insert_at(block: &mut [u32], s: Shape, parity: u8, i: u8, x: u32, v: u64)
-    requires { ⌜ LevelIn s parity i (now block) × Open s i x v (levelPart s parity i (now block)) ⌝ }
+    requires { ⌜ LevelIn s parity i (now block) × Insertable s i x v (levelPart s parity i (now block)) ⌝ }
     ensures { λ _. ⌜ now (block .exit) ≡ withLevel s parity i (encodeLevel (s .n) (insert (s .n) i x v (decodeLevel (levelPart s parity i (now (block .entry)))))) (now (block .entry)) ⌝ }
 {
     let a = s.level_start(parity, i);
@@ -35,9 +35,9 @@ fn fill(block: &mut [u32], s: Shape, stamp: u32, parity: u8, x: u32, v: u64)
     }
 }
 
-// A delivery for which the half of its stamp has room.
+// A delivery into a block whose half for the stamp has room.
 pub fn deliver_block(block: &mut [u32], s: Shape, stamp: u32, v: u32)
-    requires { ⌜ Takes s stamp v (now block) ⌝ }
+    requires { ⌜ Deliverable s stamp v (now block) ⌝ }
     ensures { λ _. ⌜ now (block .exit) ≡ encodeBlock s (deliver s stamp v (decodeBlock s (now (block .entry)))) ⌝ }
 {
     let parity = stamp::parity(stamp::interval(s, stamp));

@@ -1,4 +1,4 @@
--- How a line is read one byte at a time. Assumes nothing.
+-- How a line is read, one byte at a time. Assumes nothing.
 use mathlib.Core.Bool.{Bool, cond, not, _&&_}
 use mathlib.Core.List.{List, [], _∷_, _++_}
 use Prim.Native.Nat.{ℕ, _+_, _*_, _-_}
@@ -16,14 +16,14 @@ numbersOf (One a) = a ∷ []
 numbersOf (Two a b) = a ∷ b ∷ []
 numbersOf (Three a b c) = a ∷ b ∷ c ∷ []
 
--- after a number and a space; no call has five numbers
+-- the state after a number and a space; no call has five numbers
 abbrev pub spaced : ℕ → Kept → ℕ → State
 spaced letter None value = Space letter (One value)
 spaced letter (One a) value = Space letter (Two a value)
 spaced letter (Two a b) value = Space letter (Three a b value)
 spaced letter (Three a b c) value = Broken
 
--- a number goes on by a digit where it is not 0 and stays within the limit
+-- a digit continues a number if the number is not 0 and stays within the limit
 abbrev pub grows : ℕ → ℕ → Bool
 grows value byte = isDigit byte && (not (eqb value 0) && leb (10 * value + (byte - 48)) largest)
 

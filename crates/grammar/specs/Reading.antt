@@ -1,4 +1,4 @@
--- What a line that is read so far, and what is left of it, say by the grammar: no byte changes it. Assumes nothing.
+-- What the grammar says of a state and the bytes that are left: reading a byte does not change it. Assumes nothing.
 use mathlib.Core.Bool.{Bool, true, false, cond, not, _&&_}
 use mathlib.Core.List.{List, [], _∷_, _++_, map, append-nil}
 use mathlib.Core.Logic.{⊎-elim}
@@ -11,7 +11,7 @@ use lib.Seq.{append-snoc}
 use borrow.Author.Tests.{eq-eqb, ne-eqb, le-leb, lt-leb}
 use Rattle.shape.specs.Limits.{Reply}
 use Rattle.shape.specs.LimitsLaws.{between-limits}
-use Rattle.laws.specs.Cases.{eq-or-ne, lt-or-ge, and-false}
+use Rattle.laws.specs.Cond.{eq-or-ne, lt-or-ge, and-false}
 use Rattle.grammar.specs.declared.Kept.{Kept}
 use Rattle.grammar.specs.declared.Kept.the-variants.{None, One, Two, Three}
 use Rattle.grammar.specs.declared.State.{State}
@@ -21,7 +21,7 @@ use Rattle.grammar.specs.Machine.{numbersOf, spaced, grows, moved, ended
 
 -- ---- a number, digit by digit
 
--- the digits that may follow a value
+-- these digits may follow the value v
 goesOn : ℕ → List ℕ → Bool
 goesOn v [] = true
 goesOn v (d ∷ ds) = grows v d && goesOn (10 * v + (d - 48)) ds
@@ -64,7 +64,7 @@ later v (d ∷ ds) low high =
         rw (le-leb next largest h, ← rest)
         (regroup (isDigit d) (every isDigit ds) (leb (valueFrom next ds) largest))
 
--- a number is a digit and what may follow its value
+-- a number is a digit and digits that may follow it
 number-on : (d : ℕ) (ds : List ℕ) → isNumber (d ∷ ds) ≡ (isDigit d && goesOn (d - 48) ds)
 unfolding goesOn
 number-on d [] = go (isDigit d) refl
@@ -93,16 +93,16 @@ number-on d (e ∷ ds) = go (isDigit d) refl
 
 -- ---- a line, byte by byte
 
--- fields that follow a letter and its first numbers
+-- the reply to fields that follow a letter and its first numbers
 fieldsOf : ℕ → List ℕ → List (List ℕ) → Reply
 fieldsOf letter numbers fields = cond (every isNumber fields) (called letter (numbers ++ map valueOf fields)) unread
 
--- an answer where nothing more stands in the field
+-- the reply, if nothing more stands in the field
 alone : List ℕ → Reply → Reply
 alone [] reply = reply
 alone (b ∷ bs) reply = unread
 
--- what the grammar says of the bytes that are left
+-- what the grammar says of a state and the bytes that are left
 pub left : State → List ℕ → Reply
 unfolding fieldsOf alone
 left Start bs = grammar bs
@@ -165,7 +165,7 @@ digit-on true letter b kept bs q =
     ∙ ap (λ (l : List ℕ). cond (goesOn (b - 48) f) (cond (every isNumber fs) (called letter l) unread) unread)
     (ap (λ (v : ℕ). ns ++ valueFrom v f ∷ map valueOf fs) (zero-add (b - 48)) ∙ sym (append-snoc ns (valueFrom (b - 48) f) (map valueOf fs))))
 
--- each byte is read as the grammar has it
+-- reading a byte keeps what the grammar says
 pub one-byte : (s : State) (b : ℕ) (bs : List ℕ) → left s (b ∷ bs) ≡ left (moved s b) bs
 unfolding left grammar goesOn
 one-byte Start b bs =

@@ -1,13 +1,13 @@
-// What a line of the bench program asks for, and how far it is read.
+// What a line of the bench program asks for, and the state of reading one.
 use model::Call;
 
-// What a line asks for.
+// What a line asks for: SPECIFICATION 11.3.
 pub enum Parsed {
     Read(Call),
     Unread,
 }
 
-// The numbers that stand before the current one.
+// The numbers before the current one.
 pub enum Kept {
     None,
     One(u32),
@@ -15,16 +15,16 @@ pub enum Kept {
     Three(u32, u32, u32),
 }
 
-// How far a line is read.
+// How much of a line has been read.
 pub enum State {
-    // No byte.
+    // No byte yet.
     Start,
-    // One byte, which may be a call's letter.
+    // One byte, which may be the letter of a call.
     Letter(u8),
-    // The letter, whole numbers, and a space after them.
+    // The letter, some whole numbers, and a space after them.
     Space(u8, Kept),
-    // The letter, whole numbers, and the value of the digits after them.
+    // The letter, some whole numbers, and the value of the digits after them.
     Number(u8, Kept, u32),
-    // No line that starts so is read.
+    // Bytes with which no call starts: the line is unread, whatever follows.
     Broken,
 }

@@ -1,26 +1,27 @@
--- What a sound level that is open to a delivery gives the code: below F nothing changes; at level 0 the slot found is that of the
--- offset or the one before which it is to stand; at the others its bucket covers the offset. Rests on soundness as facts.
+-- What a sound level with room for a delivery gives the code. Below F nothing changes. At level 0 the slot found has the bucket of the
+-- offset, or a new bucket must stand before it. At the other levels its bucket spans the offset. Rests on soundness as facts.
 use mathlib.Core.Bool.{Bool, true, false}
 use mathlib.Core.List.{List, [], _∷_, _++_}
 use mathlib.Core.Logic.{⊎-elim}
 use mathlib.Core.Path.{_≡_, sym, ap, subst, _∙_}
-use Prim.Native.Nat.{ℕ, zero, suc, _+_, _*_, _^_, _≤_, _<_}
+use Prim.Native.Nat.{ℕ, zero, suc, _+_, _^_, _≤_, _<_}
 use native.Mathlib.Omega.{arith}
 use lib.ListN.{length, getD, set}
 use lib.Pow.{pow-mono}
 use Rattle.shape.specs.declared.Shape.{Shape}
+use Rattle.shape.specs.Layout.{slotStart}
 use Rattle.model.specs.Level.{Bucket, bucketOf, levelOf, insert}
 use Rattle.model.specs.Words.{slot, decodeLevel, encodeLevel}
 use Rattle.model.specs.Sound.{weightOf}
-use Rattle.laws.specs.Cases.{eq-or-ne}
-use Rattle.laws.specs.Batch.{Under, Over, insert-below, insert-put, insert-new}
+use Rattle.laws.specs.Cond.{eq-or-ne}
+use Rattle.laws.specs.Insert.{Under, Over, insert-below, insert-put, insert-new}
 use Rattle.laws.specs.LevelWords.{length-slots, encode-decode-sound}
 use Rattle.laws.specs.LevelWrites.{slot-encode, set-weight}
-use Rattle.laws.specs.Place.{place, EndsRise, sound-rises}
-use Rattle.laws.specs.Proper.{Open}
-use Rattle.laws.specs.Rise.{Rising}
-use Rattle.laws.specs.SoundFacts.{Chained, SoundBuckets, SoundLevel, words-tests}
-use Rattle.laws.specs.Round.{Ends, Placed, place-parts, count-parts, chained-covering, rising-passed, rising-at}
+use Rattle.laws.specs.SlotOf.{slotOf, EndsRise, sound-rises}
+use Rattle.laws.specs.Proper.{Insertable}
+use Rattle.laws.specs.Put.{Rising}
+use Rattle.laws.specs.SoundLevel.{Chained, SoundBuckets, SoundLevel, words-tests}
+use Rattle.laws.specs.Evict.{Ends, PartedAt, slotOf-parts, count-parts, chained-covering, rising-passed, rising-at}
 use Rattle.buckets.specs.Steps.{Takes, takes-at, Becomes}
 use Rattle.insert.specs.Ready.{Upper, Covers, Ready, ready}
 
@@ -28,7 +29,7 @@ weight-part : (before : List Bucket) (b : Bucket) (after : List Bucket) → b .w
 weight-part [] b after = omega arith
 weight-part (c ∷ before) b after = omega (arith, weight-part before b after)
 
-module _ {s : Shape} {i x v : ℕ} {ws : List ℕ} (o : Open s i x v ws) where
+module _ {s : Shape} {i x v : ℕ} {ws : List ℕ} (o : Insertable s i x v ws) where
   sound : SoundLevel (s .k) (s .n) i (o .total) (decodeLevel ws)
   sound = words-tests s i (o .total) ws .0 (o .sound) .1
 
@@ -39,11 +40,11 @@ module _ {s : Shape} {i x v : ℕ} {ws : List ℕ} (o : Open s i x v ws) where
   unfolding decodeLevel
   few = omega (arith, sound .few, length-slots ws 0 (getD ws 0 0))
 
-  -- what the search asks of a level
-  pub searchable : (2 + 3 * getD ws 0 0 ≤ length ws) × EndsRise 0 (decodeLevel ws .buckets)
+  -- what the search requires of a level
+  pub searchable : (slotStart (getD ws 0 0) ≤ length ws) × EndsRise 0 (decodeLevel ws .buckets)
   searchable = (omega (arith, few, o .size), sound-rises (s .k) i (decodeLevel ws .first) (decodeLevel ws .buckets) (sound .parts))
 
-  -- x stands below F
+  -- x is below F
   pub below : x < getD ws 1 0 → ws ≡ encodeLevel (s .n) (insert (s .n) i x v (decodeLevel ws))
   unfolding decodeLevel
   below h = held ∙ ap (encodeLevel (s .n)) (sym (insert-below (s .n) i x v (decodeLevel ws) h))
@@ -51,18 +52,18 @@ module _ {s : Shape} {i x v : ℕ} {ws : List ℕ} (o : Open s i x v ws) where
   pub small : x < 2 ^ 20
   small = omega (arith, o .inside, pow-mono {i = s .k} {j = 20} (o .proper .limits .high-k))
 
-  -- the total with v fits a word
+  -- the total and v fit a word
   pub total-fits : o .total + v < 2 ^ 32
   total-fits = omega (arith, o .room, pow-mono {i = s .m} {j = 24} (o .proper .limits .high-m))
 
--- the slot j at which x falls, where x is not below F
+-- the slot j that the search finds for x, if x is not below F
 pub record Found (s : Shape) (i x v : ℕ) (ws : List ℕ) (j : ℕ) : Type 0 where
-  pub opened : Open s i x v ws
+  pub insertable : Insertable s i x v ws
   pub kept : getD ws 1 0 ≤ x
-  pub parts : Placed x (decodeLevel ws .buckets) j
+  pub parts : PartedAt x (decodeLevel ws .buckets) j
 
-pub found : {s : Shape} {i x v : ℕ} {ws : List ℕ} {j : ℕ} → Open s i x v ws → getD ws 1 0 ≤ x → j ≡ place x (decodeLevel ws .buckets) → Found s i x v ws j
-found {x} {ws} o kept e = record { opened = o; kept = kept; parts = rw e (place-parts x (decodeLevel ws .buckets)) }
+pub found : {s : Shape} {i x v : ℕ} {ws : List ℕ} {j : ℕ} → Insertable s i x v ws → getD ws 1 0 ≤ x → j ≡ slotOf x (decodeLevel ws .buckets) → Found s i x v ws j
+found {x} {ws} o kept e = record { insertable = o; kept = kept; parts = rw e (slotOf-parts x (decodeLevel ws .buckets)) }
 
 module _ {s : Shape} {i x v : ℕ} {ws : List ℕ} {j : ℕ} (e : Found s i x v ws j) where
   abbrev bs : List Bucket
@@ -77,15 +78,15 @@ module _ {s : Shape} {i x v : ℕ} {ws : List ℕ} {j : ℕ} (e : Found s i x v 
     decoded = ap (levelOf (getD ws 1 0)) same
 
     parted : ws ≡ encodeLevel (s .n) (levelOf (getD ws 1 0) (before ++ after))
-    parted = held (e .opened) ∙ ap (encodeLevel (s .n)) decoded
+    parted = held (e .insertable) ∙ ap (encodeLevel (s .n)) decoded
 
     parted-few : length (before ++ after) ≤ s .n
-    parted-few = rw same at (sound (e .opened) .few)
+    parted-few = rw same at (sound (e .insertable) .few)
 
-  -- v more than the weight of a bucket fits a word
+  -- the weight of a bucket and v fit a word
   fits : (b : Bucket) (after : List Bucket) → bs ≡ before ++ b ∷ after → b .weight + v < 2 ^ 32
   fits b after same =
-      let o = e .opened in
+      let o = e .insertable in
       omega (arith, ap weightOf same, weight-part before b after, sound o .within, total-fits o)
 
 -- ---- a level from 1
@@ -94,17 +95,17 @@ chained-of : (k i f : ℕ) (bs : List Bucket) → 0 < i → SoundBuckets k i f b
 chained-of k zero f bs h g = absurd (omega arith)
 chained-of k (suc j) f bs h g = g .1
 
-upper-limits : {s : Shape} {i x v : ℕ} {ws : List ℕ} → Open s i x v ws → 0 < i → Upper (s .n) i
+upper-limits : {s : Shape} {i x v : ℕ} {ws : List ℕ} → Insertable s i x v ws → 0 < i → Upper (s .n) i
 upper-limits {i} o low =
     let top = o .proper .limits in
     let high : i ≤ 24 = omega (arith, o .index, o .proper .last, top .high-m) in
     record { some = omega (arith, top .low-n); most = top .high-n; low = low; high = high; small = omega (arith, pow-mono {i = suc i} {j = 25} (omega arith)) }
 
--- some bucket covers x, and it is that of slot j
+-- some bucket spans x, and it is that of slot j
 pub found-ready : {s : Shape} {i x v : ℕ} {ws : List ℕ} {j : ℕ} → Found s i x v ws j → 0 < i → Ready (s .n) i x v j ws
 unfolding decodeLevel
 found-ready {s} {i} {x} {v} {ws} {j} e low =
-    let o = e .opened in
+    let o = e .insertable in
     let p = e .parts in
     let f = getD ws 1 0 in
     let count = length (bs e) in
@@ -127,7 +128,7 @@ found-ready {s} {i} {x} {v} {ws} {j} e low =
 
 -- ---- level 0
 
--- whether slot j holds the bucket of offset x
+-- whether slot j has the bucket of offset x
 pub record At (j x : ℕ) (ws : List ℕ) (at : Bool) : Type 0 where
   pub yes : at ≡ true → (j < getD ws 0 0) × (slot ws j .offset ≡ x)
   pub no : at ≡ false → j < getD ws 0 0 → slot ws j .offset ≡ x → ⊥
@@ -136,21 +137,21 @@ module _ {s : Shape} {x v : ℕ} {ws : List ℕ} {j : ℕ} (e : Found s 0 x v ws
   abbrev f : ℕ
   f = getD ws 1 0
 
-  abbrev p : Placed x (bs e) j
+  abbrev p : PartedAt x (bs e) j
   p = e .parts
 
   rising : (after : List Bucket) → bs e ≡ p .before ++ after → Rising (s .k) f (p .before ++ after)
   unfolding decodeLevel
-  rising after same = subst (Rising (s .k) f) same (sound (e .opened) .parts .1)
+  rising after same = subst (Rising (s .k) f) same (sound (e .insertable) .parts .1)
 
   under : Under x (p .before)
   under = rising-passed (s .k) x f (p .before) (p .after) (p .passed) (rising (p .after) (p .same))
 
   pub found-takes : Takes (s .n) j ws
   found-takes =
-      let top = e .opened .proper .limits in
+      let top = e .insertable .proper .limits in
       takes-at (s .n) f x (p .before) (p .after) ws j (p .size) (parted e (p .after) (p .same)) (parted-few e (p .after) (p .same)) (p .passed)
-      (omega (arith, small (e .opened))) (omega (arith, top .low-n)) (top .high-n)
+      (omega (arith, small (e .insertable))) (omega (arith, top .low-n)) (top .high-n)
 
   module _ (b : Bucket) (after : List Bucket) (same : bs e ≡ p .before ++ b ∷ after) where
     here : slot ws j ≡ b
@@ -159,33 +160,33 @@ module _ {s : Shape} {x v : ℕ} {ws : List ℕ} {j : ℕ} (e : Found s 0 x v ws
     there : j < getD ws 0 0
     there = omega (arith, count-parts (s .n) f (p .before) (b ∷ after) ws (parted e (b ∷ after) same), p .size)
 
-  -- the bucket of slot j is that of x, and gains v
+  -- slot j has the bucket of x, which gains v
   pub gains : j < getD ws 0 0 → slot ws j .offset ≡ x
-      → (slot ws j .weight + v < 2 ^ 32) × (set ws (2 + 3 * j + 2) (slot ws j .weight + v) ≡ encodeLevel (s .n) (insert (s .n) 0 x v (decodeLevel ws)))
+      → (slot ws j .weight + v < 2 ^ 32) × (set ws (slotStart j + 2) (slot ws j .weight + v) ≡ encodeLevel (s .n) (insert (s .n) 0 x v (decodeLevel ws)))
   gains inside at = go (p .after) (p .same)
     where
       go : (after : List Bucket) → bs e ≡ p .before ++ after
-          → (slot ws j .weight + v < 2 ^ 32) × (set ws (2 + 3 * j + 2) (slot ws j .weight + v) ≡ encodeLevel (s .n) (insert (s .n) 0 x v (decodeLevel ws)))
+          → (slot ws j .weight + v < 2 ^ 32) × (set ws (slotStart j + 2) (slot ws j .weight + v) ≡ encodeLevel (s .n) (insert (s .n) 0 x v (decodeLevel ws)))
       go [] same = absurd (omega (arith, count-parts (s .n) f (p .before) [] ws (parted e [] same), p .size))
       go (b ∷ after) same =
           let is : b .offset ≡ x = sym (ap (λ (z : Bucket). z .offset) (here b after same)) ∙ at in
           rw (ap (λ (z : Bucket). z .weight) (here b after same)) (
             fits e b after same,
-            ap (λ (z : List ℕ). set z (2 + 3 * j + 2) (b .weight + v)) (parted e (b ∷ after) same)
+            ap (λ (z : List ℕ). set z (slotStart j + 2) (b .weight + v)) (parted e (b ∷ after) same)
                 ∙ set-weight (s .n) f (p .before) after j (p .size) b (b .weight + v)
                 ∙ ap (encodeLevel (s .n))
                 (sym (ap (insert (s .n) 0 x v) (decoded e (b ∷ after) same)
                 ∙ insert-put (s .n) x f (e .kept) (p .before) under b after is (parted-few e (b ∷ after) same) v)),
           )
 
-  -- x has no bucket, and one is put in at slot j
+  -- x has no bucket, and one is put into slot j
   pub makes : (j < getD ws 0 0 → slot ws j .offset ≡ x → ⊥) → {ws′ : List ℕ} {up : ℕ} → Becomes (s .n) 0 j [] (bucketOf x 1 v ∷ []) ws ws′ up
       → ws′ ≡ encodeLevel (s .n) (insert (s .n) 0 x v (decodeLevel ws))
   makes none put =
       put .words f (p .before) (p .after) (p .size) (parted e (p .after) (p .same))
       ∙ ap (encodeLevel (s .n))
       (sym (ap (insert (s .n) 0 x v) (decoded e (p .after) (p .same))
-      ∙ insert-new (s .n) x f (e .kept) (p .before) under (p .after) (over (p .after) (p .same) (p .ends)) (parted-few e (p .after) (p .same)) v (e .opened .some)))
+      ∙ insert-new (s .n) x f (e .kept) (p .before) under (p .after) (over (p .after) (p .same) (p .ends)) (parted-few e (p .after) (p .same)) v (e .insertable .some)))
     where
       over : (after : List Bucket) → bs e ≡ p .before ++ after → Ends x after → Over x after
       over [] same ends = tt

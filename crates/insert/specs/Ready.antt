@@ -1,21 +1,22 @@
--- A level from 1 whose bucket of slot j covers offset x and takes v, and what is left to do once that bucket is split: the rest goes
--- into the half that covers x, which is half as wide. Rests on the laws of one round.
+-- A level from 1 whose bucket of slot j spans offset x and takes v, and what is left to do once that bucket is split: the rest goes into the
+-- half that spans x, which is half as wide. Rests on the laws of one round.
 use mathlib.Core.Bool.{Bool, true, false, cond}
 use mathlib.Core.List.{List, [], _∷_, _++_, append-assoc}
 use mathlib.Core.Path.{_≡_, refl, sym, ap, subst, _∙_}
-use Prim.Native.Nat.{ℕ, zero, suc, _+_, _-_, _*_, _/_, _^_, _≤_, _<_}
+use Prim.Native.Nat.{ℕ, zero, suc, _+_, _-_, _/_, _^_, _≤_, _<_}
 use native.Mathlib.Nat.{pow-suc}
 use native.Mathlib.Omega.{arith}
 use lib.Dec.{ltb}
 use lib.ListN.{length, getD, set, length-append}
 use lib.Pow.{pow-pos}
+use Rattle.shape.specs.Layout.{slotStart}
 use Rattle.model.specs.Level.{Bucket, Level, bucketOf, levelOf, evict, insert}
 use Rattle.model.specs.Words.{slot, decodeLevel, encodeLevel}
-use Rattle.laws.specs.Buckets.{halves}
-use Rattle.laws.specs.Batch.{insert-below}
+use Rattle.laws.specs.Bucket.{halves}
+use Rattle.laws.specs.Insert.{insert-below}
 use Rattle.laws.specs.LevelWords.{decode-encode}
 use Rattle.laws.specs.LevelWrites.{slot-encode, set-weight}
-use Rattle.laws.specs.Round.{count-parts, Passed, passed-snoc, Round, both, upper, upper-held, upper-split, one-round}
+use Rattle.laws.specs.Evict.{count-parts, Passed, passed-snoc, Round, both, upper, upper-held, upper-split, one-round}
 use Rattle.buckets.specs.Steps.{Takes, takes-at, Becomes}
 
 -- the limits of a level from 1
@@ -26,12 +27,12 @@ pub record Upper (n i : ℕ) : Type 0 where
   pub high : i ≤ 24
   pub small : 2 ^ suc i < 2 ^ 32
 
--- whether a bucket is not split
-pub record Whole (width weight full : ℕ) (whole : Bool) : Type 0 where
+-- whether a bucket stays whole
+pub record StaysWhole (width weight full : ℕ) (whole : Bool) : Type 0 where
   pub stays : whole ≡ true → 1 < width → weight < full
   pub goes : whole ≡ false → (1 < width) × (full ≤ weight)
 
--- the bucket covers x, is to be split where it is full, and v more fits a word
+-- the bucket spans x, is not full if it is wider than 1, and its weight and v fit a word
 pub record Covers (i x v : ℕ) (b : Bucket) : Type 0 where
   pub size : ℕ
   pub power : b .width ≡ 2 ^ size
@@ -54,7 +55,7 @@ pub record Ready (n i x v j : ℕ) (ws : List ℕ) : Type 0 where
   pub covers : Covers i x v (slot ws j)
   pub limits : Upper n i
 
--- the record, from the words' level, with the bucket that is read there
+-- the record for the level of the words, and for the bucket that is read there
 pub ready : (n i x v : ℕ) (ws : List ℕ) (f : ℕ) (before : List Bucket) (b : Bucket) (after : List Bucket) (j : ℕ) → length before ≡ j
     → ws ≡ encodeLevel n (levelOf f (before ++ b ∷ after)) → length (before ++ b ∷ after) ≤ n → f ≤ x → Passed x before → Covers i x v b → Upper n i
     → (slot ws j ≡ b) × Ready n i x v j ws
@@ -81,14 +82,14 @@ module _ {n i x v j : ℕ} {ws : List ℕ} (r : Ready n i x v j ws) where
   few : length (r .before) + suc (length (r .after)) ≤ n
   few = omega (arith, r .place, r .count, r .takes .few)
 
-  -- the bucket takes v
+  -- the bucket takes all of v
   pub filled : (1 < slot ws j .width → slot ws j .weight + v < 2 ^ suc i)
-      → set ws (2 + 3 * j + 2) (slot ws j .weight + v) ≡ encodeLevel n (insert n i x v (decodeLevel ws))
+      → set ws (slotStart j + 2) (slot ws j .weight + v) ≡ encodeLevel n (insert n i x v (decodeLevel ws))
   filled room =
       let b = slot ws j in
       let level = levelOf (r .first) (r .before ++ b ∷ r .after) in
       let taken = upper-held n x (r .first) (r .kept) (r .before) (r .passed) b (r .covers .low) (r .covers .high) (r .after) few i (r .limits .low) v room in
-      ap (λ (z : List ℕ). set z (2 + 3 * j + 2) (b .weight + v)) (r .held) ∙ set-weight n (r .first) (r .before) (r .after) j (r .place) b (b .weight + v)
+      ap (λ (z : List ℕ). set z (slotStart j + 2) (b .weight + v)) (r .held) ∙ set-weight n (r .first) (r .before) (r .after) j (r .place) b (b .weight + v)
       ∙ ap (encodeLevel n) (sym (ap (insert n i x v) (ap decodeLevel (r .held) ∙ decode-encode n level) ∙ taken))
 
 -- ---- the bucket is split
@@ -98,7 +99,7 @@ halved : (size width : ℕ) → width ≡ 2 ^ size → 1 < width → (width / 2 
 halved zero width power long = absurd (omega arith)
 halved (suc less) width power long = let e : suc less - 1 ≡ less = omega arith in rw e (omega (arith, pow-suc 2 less))
 
--- the bucket of slot j was filled and split, and `rest` is left of v
+-- the bucket of slot j was filled and split, and `rest` is what is left of v
 pub record Cut (n i x v j rest : ℕ) (ws ws′ : List ℕ) (up : ℕ) : Type 0 where
   pub ready-was : Ready n i x v j ws
   pub long : 1 < slot ws j .width
@@ -138,7 +139,7 @@ module _ {n i x v j rest : ℕ} {ws ws′ : List ℕ} {up : ℕ} (c : Cut n i x 
       subst (λ (z : ℕ). Round n x lower higher (r .after) z left) (sym there)
       (one-round n x (r .first) (r .kept) (r .before) (r .passed) b (r .covers .low) (r .covers .high) (r .after) (few r) i (r .limits .low) lower higher (r .covers .low))
 
-  -- the rest goes on in what the split left
+  -- inserting the rest after the split is inserting v before it
   pub onward : insert n i x rest (decodeLevel ws′) ≡ insert n i x v (decodeLevel ws)
   onward =
       let level = levelOf (r .first) (r .before ++ b ∷ r .after) in
@@ -147,7 +148,7 @@ module _ {n i x v j rest : ℕ} {ws ws′ : List ℕ} {up : ℕ} (c : Cut n i x 
       ∙ sym (ap (insert n i x v) (ap decodeLevel (r .held) ∙ decode-encode n level)
       ∙ upper-split n x (r .first) (r .kept) (r .before) (r .passed) b (r .covers .low) (r .covers .high) (r .after) (few r) i (r .limits .low) v (c .long) (r .covers .light (c .long)) (omega (arith, c .full)))
 
-  -- a half that covers x takes it, and is narrower
+  -- a half that spans x takes the rest, and is narrower
   half-ready : (f : ℕ) (before : List Bucket) (a : ℕ) (after : List Bucket) (to : ℕ) → left ≡ levelOf f (before ++ bucketOf a half (2 ^ i) ∷ after)
       → length before ≡ to → length (before ++ bucketOf a half (2 ^ i) ∷ after) ≤ n → f ≤ x → Passed x before → a ≤ x → x < a + half → a + half ≤ b .offset + b .width
       → (slot ws′ to .width < b .width) × Ready n i x rest to ws′
@@ -187,7 +188,7 @@ module _ {n i x v j rest : ℕ} {ws ws′ : List ℕ} {up : ℕ} (c : Cut n i x 
           (omega (arith, halved (r .covers .size) (b .width) (r .covers .power) (c .long)))
       go (upper same none fits) = absurd (omega arith)
 
-  -- the half that covers x was given up, so the rest is ignored
+  -- the half that spans x was evicted, so the rest is ignored
   pub given-up : x < b .offset + half → up ≡ 0 → ws′ ≡ encodeLevel n (insert n i x v (decodeLevel ws))
   given-up h none = go cases
     where

@@ -1,5 +1,5 @@
--- What judging a call tells: the first of its refusals, or the shape and the clock of the book; and the refusals of each call once the
--- head is known to be sound. Assumes nothing.
+-- What judging a call answers: the first of its refusals, or the shape and the clock of the book; and which refusals of each call are left
+-- once the head is known to be sound. Assumes nothing.
 use mathlib.Core.Bool.{Bool, true, false, cond, not, _||_}
 use mathlib.Core.Path.{_≡_, refl, sym, ap, _∙_}
 use mathlib.Core.List.{List, _++_}
@@ -9,7 +9,7 @@ use lib.Dec.{ltb, eqb}
 use lib.ListN.{length, drop}
 use borrow.Author.Tests.{lt-ltb, le-ltb}
 use Rattle.shape.specs.declared.Shape.{Shape}
-use Rattle.shape.specs.Layout.{bookWords}
+use Rattle.shape.specs.Layout.{headLen, bookWords}
 use Rattle.model.specs.declared.Call.{Call}
 use Rattle.model.specs.declared.Call.the-variants.{Make, Clock, Delivery, Query}
 use Rattle.model.specs.declared.Refusal.{Refusal}
@@ -22,17 +22,10 @@ use Rattle.laws.specs.Proper.{Proper, Whole}
 use Rattle.laws.specs.Refusals.{numberOf-pos, viewOf, opened-accepted}
 use Rattle.model.specs.Claim.{ByCall}
 use Rattle.laws.specs.BookWords.{soundHead-limits, soundHead-clock, length-blockPart}
-use Rattle.book.specs.declared.head.Opened.{Opened}
-use Rattle.book.specs.declared.head.Opened.the-variants.{Book, Refused}
-use Rattle.book.specs.Head.{openedNumber}
+use Rattle.book.specs.declared.head.Opened.the-variants.{Book}
+use Rattle.book.specs.Judgement.{openedNumber, firstRefusal}
+use Rattle.book.specs.Head.{Told}
 use Rattle.book.specs.Part.{InBook}
-
-abbrev pub firstRefusal : List ℕ → Call → ℕ
-firstRefusal ws call = firstOf (refusals (bookView ws) call)
-
-abbrev pub Judges : List ℕ → Call → Opened → Type 0
-Judges ws call (Book s clock) = (firstRefusal ws call ≡ 0) × (s ≡ shapeOf ws) × (clock ≡ clockOf ws)
-Judges ws call (Refused r) = firstRefusal ws call ≡ numberOf r
 
 -- a book whose head is sound and whose length is right
 pub record Open (ws : List ℕ) (s : Shape) (clock : ℕ) : Type 0 where
@@ -40,7 +33,7 @@ pub record Open (ws : List ℕ) (s : Shape) (clock : ℕ) : Type 0 where
   pub same : s ≡ shapeOf ws
   pub now : clock ≡ clockOf ws
 
--- an open book and a delivery that 3, 4, 8 and 9 do not refuse
+-- an open book, and a delivery that 3, 4, 8 and 9 do not refuse
 pub record Due (ws : List ℕ) (s : Shape) (clock grade stamp volume : ℕ) : Type 0 where
   pub book : Open ws s clock
   pub inside : grade < s .g
@@ -48,11 +41,11 @@ pub record Due (ws : List ℕ) (s : Shape) (clock grade stamp volume : ℕ) : Ty
   pub come : stamp ≤ clock
   pub early : clock ≤ stamp + 2 ^ s .k
 
--- ---- the refusals that every call but make begins with
+-- ---- the refusals with which every call but make begins
 
 module _ (v : View) (rest : List (Bool × ℕ)) where
   stops : (z : ℕ) → (z ≡ 0 → ⊥) → firstOf (opened v) ≡ z → firstOf (opened v ++ rest) ≡ z
-  stops z some = go (ltb (v .lent) 8) (not (v .headSound)) (not (eqb (v .lent) (bookWords (v .shape))))
+  stops z some = go (ltb (v .lent) headLen) (not (v .headSound)) (not (eqb (v .lent) (bookWords (v .shape))))
     where
       go : (a b c : Bool) → cond a 2 (cond b 7 (cond c 2 0)) ≡ z → cond a 2 (cond b 7 (cond c 2 (firstOf rest))) ≡ z
       go true b c h = h
@@ -61,7 +54,7 @@ module _ (v : View) (rest : List (Bool × ℕ)) where
       go false false false h = absurd (some (sym h))
 
   passes : firstOf (opened v) ≡ 0 → firstOf (opened v ++ rest) ≡ firstOf rest
-  passes = go (ltb (v .lent) 8) (not (v .headSound)) (not (eqb (v .lent) (bookWords (v .shape))))
+  passes = go (ltb (v .lent) headLen) (not (v .headSound)) (not (eqb (v .lent) (bookWords (v .shape))))
     where
       go : (a b c : Bool) → _≡_ {A = ℕ} (cond a 2 (cond b 7 (cond c 2 0))) 0 → cond a 2 (cond b 7 (cond c 2 (firstOf rest))) ≡ firstOf rest
       go true b c h = absurd (omega arith)
@@ -70,7 +63,7 @@ module _ (v : View) (rest : List (Bool × ℕ)) where
       go false false false h = refl
 
   starts : firstOf (opened v ++ rest) ≡ 0 → firstOf (opened v) ≡ 0
-  starts = go (ltb (v .lent) 8) (not (v .headSound)) (not (eqb (v .lent) (bookWords (v .shape))))
+  starts = go (ltb (v .lent) headLen) (not (v .headSound)) (not (eqb (v .lent) (bookWords (v .shape))))
     where
       go : (a b c : Bool) → cond a 2 (cond b 7 (cond c 2 (firstOf rest))) ≡ 0 → _≡_ {A = ℕ} (cond a 2 (cond b 7 (cond c 2 0))) 0
       go true b c h = h
@@ -78,18 +71,18 @@ module _ (v : View) (rest : List (Bool × ℕ)) where
       go false false true h = h
       go false false false h = refl
 
--- which of 11 and 12 refuses a delivery
+-- which of 11 and 12 refuses a delivery, or 0
 abbrev pub roomRefusal : Shape → List ℕ → ℕ → ℕ → ℕ → ℕ
 roomRefusal s ws grade stamp volume =
     cond (not (soundBlock s (blockPart s grade ws))) 11
     (cond (ltb (2 ^ s .m) (halfOf (interval s stamp) (decodeBlock s (blockPart s grade ws)) .total + volume)) 12 0)
 
--- a call that begins like the others
-abbrev pub Begins : Call → Type 0
-Begins = ByCall ⊥ (Unit {0}) (λ _. Unit {0}) (λ _. Unit {0})
+-- a call that begins with these refusals
+abbrev Begins : Call → Type 0
+Begins = ByCall ⊥ (Unit {0}) (λ _. Unit {0}) (λ _ _. Unit {0})
 
--- the refusals of such a call after those that it begins with
-abbrev pub restOf : View → Call → List (Bool × ℕ)
+-- the refusals of such a call after these
+abbrev restOf : View → Call → List (Bool × ℕ)
 restOf v call = drop 3 (refusals v call)
 
 begins : (v : View) (call : Call) → Begins call → refusals v call ≡ opened v ++ restOf v call
@@ -99,7 +92,7 @@ begins v (Clock clock) b = refl
 begins v (Delivery grade stamp volume) b = refl
 begins v (Query grade window) b = refl
 
--- a refusal at the head is the refusal of the call
+-- a refusal of the head is the refusal of the call
 pub head-judges : (ws : List ℕ) (r : Refusal) → openedNumber ws ≡ numberOf r → (call : Call) → Begins call → firstRefusal ws call ≡ numberOf r
 unfolding openedNumber
 head-judges ws r h call b =
@@ -126,13 +119,13 @@ module _ (ws : List ℕ) (s : Shape) (clock : ℕ) (o : Open ws s clock) where
   -- ---- the refusals that are left
 
   -- by the shape and the clock that were read
-  pub rest-judges : (call : Call) → Begins call → firstRefusal ws call ≡ firstOf (restOf (viewOf s clock ws) call)
+  rest-judges : (call : Call) → Begins call → firstRefusal ws call ≡ firstOf (restOf (viewOf s clock ws) call)
   unfolding openedNumber
   rest-judges call b =
       ap firstOf (begins (bookView ws) call b) ∙ passes (bookView ws) (restOf (bookView ws) call) (o .number)
       ∙ ap (λ (v : View). firstOf (restOf v call)) view-is
 
-  -- ---- the refusals of each call that are left, by their tests
+  -- ---- the refusals of each call that are left, as tests
 
   pub clock-judges : (to : ℕ) → firstRefusal ws (Clock to)
       ≡ cond (ltb maxClock to) 6 (cond (ltb to clock) 10 (cond (not (allFrom (λ grade. soundBlock s (blockPart s grade ws)) 0 (s .g))) 11 0))
@@ -159,7 +152,7 @@ module _ (ws : List ℕ) (s : Shape) (clock : ℕ) (o : Open ws s clock) where
     pub open-whole : soundBlock s (blockPart s grade ws) ≡ true → Whole s (blockPart s grade ws)
     open-whole sound = record { proper = open-proper; size = length-blockPart s grade h ws open-size; sound = sound }
 
--- a delivery that 3, 4, 8 and 9 do not refuse is of a grade of the book, and 11 and 12 are left
+-- a delivery that 3, 4, 8 and 9 do not refuse is of a grade of the book; 11 and 12 are left
 module _ {ws : List ℕ} {s : Shape} {clock grade stamp volume : ℕ} (d : Due ws s clock grade stamp volume) where
   pub due-inside : InBook s grade ws
   due-inside = open-inside ws s clock (d .book) grade (d .inside)
@@ -169,8 +162,8 @@ module _ {ws : List ℕ} {s : Shape} {clock grade stamp volume : ℕ} (d : Due w
       delivery-judges ws s clock (d .book) grade stamp volume
       ∙ rw (lt-ltb grade (s .g) (d .inside), d .fair, le-ltb clock stamp (d .come), le-ltb (stamp + 2 ^ s .k) clock (d .early))
 
--- an accepted call found the book open
-pub judges-open : (ws : List ℕ) (s : Shape) (clock : ℕ) (call : Call) → Begins call → Judges ws call (Book s clock) → Open ws s clock
+-- if a call is accepted, the book is open
+pub judges-open : (ws : List ℕ) (s : Shape) (clock : ℕ) (call : Call) → Begins call → Told (firstRefusal ws call) ws (Book s clock) → Open ws s clock
 unfolding openedNumber
 judges-open ws s clock call b j = record {
   number = starts (bookView ws) (restOf (bookView ws) call) (sym (ap firstOf (begins (bookView ws) call b)) ∙ j .0);

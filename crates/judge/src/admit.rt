@@ -1,4 +1,4 @@
-// Judging a delivery on a book whose head is sound: the refusals that are left, in document 01's order.
+// Judging a delivery on a book whose head is sound: the refusals that are left, in the order of SPECIFICATION 6.3.
 use book::Opened;
 use book::block_full;
 use book::block_sound;
@@ -8,9 +8,10 @@ ghost use mathlib.Core.Bool.{_||_};
 ghost use mathlib.Core.Path.{_≡_};
 ghost use lib.Dec.{ltb, eqb};
 ghost use Rattle.model.specs.declared.Call.the-variants as Call;
-ghost use Rattle.judge.specs.Judge.{Judges, Open, Due};
+ghost use Rattle.book.specs.Judgement.{openedOf, judgement, firstRefusal};
+ghost use Rattle.judge.specs.Judge.{Open, Due};
 
-// A volume is at most this.
+// The largest volume.
 const MAX_VOLUME: u32 = 65535;
 
 // Whether a volume is outside its limits.
@@ -26,7 +27,7 @@ fn is_outside(volume: u32) -> bool
 // 11 and 12, by the words of the named block.
 fn judge_room(book: &[u32], s: Shape, clock: u32, grade: u32, stamp: u32, volume: u32) -> Opened
     requires { ⌜ Due (now book) s clock grade stamp volume ⌝ }
-    ensures { λ r. ⌜ Judges (now (book .entry)) (Call.Delivery grade stamp volume) r ⌝ }
+    ensures { λ r. ⌜ openedOf r ≡ judgement (firstRefusal (now (book .entry)) (Call.Delivery grade stamp volume)) (now (book .entry)) ⌝ }
 {
     let sound = block_sound(book, s, grade);
     let full = block_full(book, s, grade, stamp, volume);
@@ -39,7 +40,7 @@ fn judge_room(book: &[u32], s: Shape, clock: u32, grade: u32, stamp: u32, volume
     Opened::Book { shape: s, clock }
 }
 
-// 3, 4, 8 and 9, by the numbers alone; only then is the block read.
+// 3, 4, 8 and 9, by the numbers alone. Only then is the block read.
 pub fn judge_delivery_in(
     book: &[u32],
     s: Shape,
@@ -49,7 +50,7 @@ pub fn judge_delivery_in(
     volume: u32,
 ) -> Opened
     requires { ⌜ Open (now book) s clock ⌝ }
-    ensures { λ r. ⌜ Judges (now (book .entry)) (Call.Delivery grade stamp volume) r ⌝ }
+    ensures { λ r. ⌜ openedOf r ≡ judgement (firstRefusal (now (book .entry)) (Call.Delivery grade stamp volume)) (now (book .entry)) ⌝ }
 {
     let grades = s.g as u32;
     let known = grade < grades;

@@ -1,4 +1,4 @@
-// Judging a call on a book: its refusals in document 01's order, before a word is written.
+// Judging a call on a book: its refusals in the order of SPECIFICATION 6.3, before a word is written.
 mod admit;
 
 use admit::judge_delivery_in;
@@ -9,12 +9,14 @@ use book::block_sound;
 use book::open;
 use model::Refusal;
 use shape::Shape;
+ghost use mathlib.Core.Path.{_≡_};
 ghost use Rattle.model.specs.declared.Call.the-variants as Call;
-ghost use Rattle.judge.specs.Judge.{Judges, Open};
+ghost use Rattle.book.specs.Judgement.{openedOf, judgement, firstRefusal};
+ghost use Rattle.judge.specs.Judge.{Open};
 
 fn judge_clock_in(book: &[u32], s: Shape, clock: u32, to: u32) -> Opened
     requires { ⌜ Open (now book) s clock ⌝ }
-    ensures { λ r. ⌜ Judges (now (book .entry)) (Call.Clock to) r ⌝ }
+    ensures { λ r. ⌜ openedOf r ≡ judgement (firstRefusal (now (book .entry)) (Call.Clock to)) (now (book .entry)) ⌝ }
 {
     let past = MAX_CLOCK < to;
     let back = to < clock;
@@ -31,7 +33,7 @@ fn judge_clock_in(book: &[u32], s: Shape, clock: u32, to: u32) -> Opened
 }
 
 pub fn judge_clock(book: &[u32], to: u32) -> Opened
-    ensures { λ r. ⌜ Judges (now (book .entry)) (Call.Clock to) r ⌝ }
+    ensures { λ r. ⌜ openedOf r ≡ judgement (firstRefusal (now (book .entry)) (Call.Clock to)) (now (book .entry)) ⌝ }
 {
     match open(book) {
         Opened::Book { shape, clock } => judge_clock_in(book, shape, clock, to),
@@ -40,7 +42,7 @@ pub fn judge_clock(book: &[u32], to: u32) -> Opened
 }
 
 pub fn judge_delivery(book: &[u32], grade: u32, stamp: u32, volume: u32) -> Opened
-    ensures { λ r. ⌜ Judges (now (book .entry)) (Call.Delivery grade stamp volume) r ⌝ }
+    ensures { λ r. ⌜ openedOf r ≡ judgement (firstRefusal (now (book .entry)) (Call.Delivery grade stamp volume)) (now (book .entry)) ⌝ }
 {
     match open(book) {
         Opened::Book { shape, clock } => judge_delivery_in(
@@ -57,7 +59,7 @@ pub fn judge_delivery(book: &[u32], grade: u32, stamp: u32, volume: u32) -> Open
 
 fn judge_query_in(book: &[u32], s: Shape, clock: u32, grade: u32, window: u32) -> Opened
     requires { ⌜ Open (now book) s clock ⌝ }
-    ensures { λ r. ⌜ Judges (now (book .entry)) (Call.Query grade window) r ⌝ }
+    ensures { λ r. ⌜ openedOf r ≡ judgement (firstRefusal (now (book .entry)) (Call.Query grade window)) (now (book .entry)) ⌝ }
 {
     let grades = s.g as u32;
     let widest = words::power(s.k);
@@ -76,7 +78,7 @@ fn judge_query_in(book: &[u32], s: Shape, clock: u32, grade: u32, window: u32) -
 }
 
 pub fn judge_query(book: &[u32], grade: u32, window: u32) -> Opened
-    ensures { λ r. ⌜ Judges (now (book .entry)) (Call.Query grade window) r ⌝ }
+    ensures { λ r. ⌜ openedOf r ≡ judgement (firstRefusal (now (book .entry)) (Call.Query grade window)) (now (book .entry)) ⌝ }
 {
     match open(book) {
         Opened::Book { shape, clock } => judge_query_in(book, shape, clock, grade, window),

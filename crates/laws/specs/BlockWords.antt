@@ -1,5 +1,5 @@
--- A block and its words: decoding and encoding are inverse, each level has its part, and soundness of the words is a fact of the block.
--- Rests on the codec of a level and on lists in parts.
+-- A block and its words: decoding and encoding are inverse, each level has its part, and the words are sound exactly if the block is. Rests
+-- on the codec of a level and on lists in parts.
 use mathlib.Core.Bool.{Bool, true, _&&_}
 use mathlib.Core.Path.{_≡_, refl, sym, ap, _∙_}
 use mathlib.Core.List.{List, [], _∷_, _++_, map, append-nil}
@@ -12,25 +12,25 @@ use lib.ListN.{length, getD, take, drop, length-append, length-drop}
 use lib.Seq.{drop-append-add, length-take-le, take-add, take-all, drop-drop}
 use borrow.Author.Tests.{leb-true, le-leb}
 use Rattle.shape.specs.declared.Shape.{Shape}
-use Rattle.shape.specs.Layout.{levelWords, levelStart, blockWords}
+use Rattle.shape.specs.Layout.{totalStart, levelWords, levelStart, blockWords}
 use Rattle.shape.specs.LimitsLaws.{both}
 use Rattle.model.specs.Level.{Level}
 use Rattle.model.specs.Block.{Half, Block, upFrom}
 use Rattle.model.specs.Words.{decodeLevel, levelPart, decodeHalf, decodeBlock, join, encodeLevel, encodeBlock}
 use Rattle.model.specs.Sound.{allFrom, soundLevel, soundHalf, soundBlock}
-use Rattle.laws.specs.Cases.{and-true}
+use Rattle.laws.specs.Cond.{and-true}
 use Rattle.laws.specs.LevelWords.{first-two, decode-encode, length-encode, soundContent, soundLevel-encode, soundLevel-decode, encode-decode-sound}
-use Rattle.laws.specs.Parts.{append-cong, Each, allFrom-intro, allFrom-elim, allFrom-cong, map-upFrom, upFrom-cong, length-join, take-drop-join, join-consecutive, place-next}
+use Rattle.laws.specs.Parts.{append-cong, EachFrom, allFrom-intro, allFrom-elim, allFrom-cong, map-upFrom, upFrom-cong, length-join, take-drop-join, join-consecutive, place-next}
 
--- ---- where the levels stand
+-- ---- where the levels start
 
 -- how many words the levels of one half take
 unfoldable pub halfWords : Shape → ℕ
 halfWords s = suc (s .last) * levelWords s
 
 module _ (s : Shape) where
-  -- where a level starts, by halves
-  pub levelStart-half : (parity i : ℕ) → levelStart s parity i ≡ 2 + parity * halfWords s + i * levelWords s
+  -- where a level starts, in terms of halves
+  levelStart-half : (parity i : ℕ) → levelStart s parity i ≡ 2 + parity * halfWords s + i * levelWords s
   unfolding levelStart halfWords
   levelStart-half parity i = rw (add-one, add-mul (parity * suc (s .last)) i (levelWords s), mul-assoc parity (suc (s .last)) (levelWords s)) (omega arith)
 
@@ -44,7 +44,7 @@ module _ (s : Shape) where
   unfolding halfWords
   level-fits i h = omega (arith, place-next 0 (levelWords s) i (suc (s .last)) (omega arith))
 
-  -- and within the block
+  -- the part of each level lies within the block
   pub levelStart-fits : (parity i : ℕ) → parity ≤ 1 → i ≤ s .last → levelStart s parity i + levelWords s ≤ blockWords s
   levelStart-fits parity i p h =
       omega (arith, levelStart-half parity i, blockWords-halves, level-fits i h, mul-le-mul-right {m = parity} {n = 1} (halfWords s) p)
@@ -66,7 +66,7 @@ module _ (s : Shape) where
       ∙ ap (λ (a : ℕ). take (halfWords s) (drop a ws)) first
 
   -- words of a block's length are two totals and the parts of their levels
-  pub levels-joined : (ws : List ℕ) → length ws ≡ blockWords s
+  levels-joined : (ws : List ℕ) → length ws ≡ blockWords s
       → ws ≡ getD ws 0 0 ∷ getD ws 1 0
       ∷ (join (upFrom (λ i. levelPart s 0 i ws) 0 (suc (s .last))) ++ join (upFrom (λ i. levelPart s 1 i ws) 0 (suc (s .last))))
   levels-joined ws size =
@@ -88,31 +88,31 @@ pub record HalfSized (s : Shape) (h : Half) : Type 0 where
   pub few : (i : ℕ) → i ≤ s .last → length (levelAt i .buckets) ≤ s .n
 
 -- the words of the levels of a half
-abbrev pub levelsWords : Shape → Half → List ℕ
+abbrev levelsWords : Shape → Half → List ℕ
 levelsWords s h = join (map (encodeLevel (s .n)) (h .levels))
 
--- words that have the half of this parity in its place
+-- words in which the half of this parity is in its place
 pub record Placed (s : Shape) (parity : ℕ) (h : Half) (z : HalfSized s h) (ws : List ℕ) : Type 0 where
-  pub total : getD ws parity 0 ≡ h .total
+  pub total : getD ws (totalStart parity) 0 ≡ h .total
   pub parts : (i : ℕ) → i ≤ s .last → levelPart s parity i ws ≡ encodeLevel (s .n) (z .levelAt i)
 
 module _ (s : Shape) (h : Half) (z : HalfSized s h) where
   abbrev part : ℕ → List ℕ
   part i = encodeLevel (s .n) (z .levelAt i)
 
-  length-part : Each 0 (suc (s .last)) (λ i. length (part i) ≡ levelWords s)
+  length-part : EachFrom 0 (suc (s .last)) (λ i. length (part i) ≡ levelWords s)
   length-part i low high = length-encode (s .n) (z .levelAt i) (z .few i (omega arith))
 
   -- the words of the levels, as parts of one size
   levelsWords-join : levelsWords s h ≡ join (upFrom part 0 (suc (s .last)))
   levelsWords-join = ap (λ (ls : List Level). join (map (encodeLevel (s .n)) ls)) (z .levels) ∙ ap join (map-upFrom (z .levelAt) (encodeLevel (s .n)) 0 (suc (s .last)))
 
-  -- and their length
+  -- the length of these words
   length-levelsWords : length (levelsWords s h) ≡ halfWords s
   unfolding halfWords
   length-levelsWords = rw levelsWords-join (length-join part (levelWords s) 0 (suc (s .last)) length-part)
 
-  -- the levels of a half, after the words that its parity asks for
+  -- the levels of a half, after as many words as its parity requires
   levels-placed : (parity : ℕ) (pre post : List ℕ) → length pre ≡ 2 + parity * halfWords s → getD (pre ++ (levelsWords s h ++ post)) parity 0 ≡ h .total
       → Placed s parity h z (pre ++ (levelsWords s h ++ post))
   levels-placed parity pre post start total = record { total = total; parts = parts }
@@ -124,23 +124,23 @@ module _ (s : Shape) (h : Half) (z : HalfSized s h) where
           (take-drop-join part (levelWords s) post 0 (suc (s .last)) length-part i i (zero-add i) (omega arith))
 
   module _ (parity : ℕ) (ws : List ℕ) (w : Placed s parity h z ws) where
-    decode-parts : Each 0 (suc (s .last)) (λ i. decodeLevel (levelPart s parity i ws) ≡ z .levelAt i)
+    decode-parts : EachFrom 0 (suc (s .last)) (λ i. decodeLevel (levelPart s parity i ws) ≡ z .levelAt i)
     decode-parts i low high = ap decodeLevel (w .parts i (omega arith)) ∙ decode-encode (s .n) (z .levelAt i)
 
     parts-joined : join (upFrom (λ i. levelPart s parity i ws) 0 (suc (s .last))) ≡ levelsWords s h
     parts-joined = ap join (upFrom-cong _ _ 0 (suc (s .last)) (λ i low high. w .parts i (omega arith))) ∙ sym levelsWords-join
 
-    -- decoding finds the half
-    pub decodeHalf-placed : decodeHalf s parity ws ≡ h
+    -- decoding gives the half
+    decodeHalf-placed : decodeHalf s parity ws ≡ h
     unfolding decodeHalf
     decodeHalf-placed =
         rw (w .total, upFrom-cong (λ i. decodeLevel (levelPart s parity i ws)) (z .levelAt) 0 (suc (s .last)) decode-parts, ← z .levels)
 
-    soundLevel-parts : Each 0 (suc (s .last)) (λ i. soundLevel s i (h .total) (levelPart s parity i ws) ≡ soundContent s i (h .total) (z .levelAt i))
+    soundLevel-parts : EachFrom 0 (suc (s .last)) (λ i. soundLevel s i (h .total) (levelPart s parity i ws) ≡ soundContent s i (h .total) (z .levelAt i))
     soundLevel-parts i low high = ap (soundLevel s i (h .total)) (w .parts i (omega arith)) ∙ soundLevel-encode s i (h .total) (z .levelAt i)
 
-    -- soundness of the words is a fact of the half
-    pub soundHalf-placed : soundHalf s parity ws ≡ (leb (h .total) (2 ^ s .m) && allFrom (λ i. soundContent s i (h .total) (z .levelAt i)) 0 (suc (s .last)))
+    -- the words are sound exactly if the half is
+    soundHalf-placed : soundHalf s parity ws ≡ (leb (h .total) (2 ^ s .m) && allFrom (λ i. soundContent s i (h .total) (z .levelAt i)) 0 (suc (s .last)))
     unfolding soundHalf
     soundHalf-placed =
         rw (
@@ -152,7 +152,7 @@ module _ (s : Shape) (h : Half) (z : HalfSized s h) where
 
 -- ---- a block and its words
 
--- a half as `soundHalf` asks for it
+-- a half that `soundHalf` accepts
 pub record HalfSound (s : Shape) (h : Half) : Type 0 where
   pub levelAt : ℕ → Level
   pub levels : h .levels ≡ upFrom levelAt 0 (suc (s .last))
@@ -191,7 +191,7 @@ module _ (s : Shape) (b : Block) where
         let start : length pre ≡ 2 + 1 * halfWords s = omega (arith, length-levelsWords s (b .even) even) in
         rw append-nil at (levels-placed s (b .odd) odd 1 pre [] start refl)
 
-    -- words of a block's length that have both halves in place are the encoded block
+    -- words of a block's length with both halves in place are the encoded block
     pub encodeBlock-placed : (ws : List ℕ) → length ws ≡ blockWords s → Placed s 0 (b .even) even ws → Placed s 1 (b .odd) odd ws → ws ≡ encodeBlock s b
     unfolding encodeBlock
     encodeBlock-placed ws size e o =
@@ -224,41 +224,41 @@ module _ (s : Shape) (ws : List ℕ) where
     levelIn i = levelPart s parity i ws
 
     abbrev levelTest : ℕ → Bool
-    levelTest i = soundLevel s i (getD ws parity 0) (levelIn i)
+    levelTest i = soundLevel s i (getD ws (totalStart parity) 0) (levelIn i)
 
-    tests : (leb (getD ws parity 0) (2 ^ s .m) ≡ true) × (allFrom levelTest 0 (suc (s .last)) ≡ true)
+    tests : (leb (getD ws (totalStart parity) 0) (2 ^ s .m) ≡ true) × (allFrom levelTest 0 (suc (s .last)) ≡ true)
     unfolding soundHalf
     tests = both sound
 
-    -- what the test of a half tells
-    pub soundHalf-total : getD ws parity 0 ≤ 2 ^ s .m
-    soundHalf-total = leb-true (getD ws parity 0) (2 ^ s .m) (tests .0)
+    -- what follows if the test of a half holds
+    pub soundHalf-total : getD ws (totalStart parity) 0 ≤ 2 ^ s .m
+    soundHalf-total = leb-true (getD ws (totalStart parity) 0) (2 ^ s .m) (tests .0)
 
-    pub soundHalf-level : (i : ℕ) → i ≤ s .last → soundLevel s i (getD ws parity 0) (levelPart s parity i ws) ≡ true
+    pub soundHalf-level : (i : ℕ) → i ≤ s .last → soundLevel s i (getD ws (totalStart parity) 0) (levelPart s parity i ws) ≡ true
     soundHalf-level i low = allFrom-elim levelTest 0 (suc (s .last)) (tests .1) i (omega arith) (omega arith)
 
     -- sound words stand for a sound half
-    pub soundHalf-decode : HalfSound s (decodeHalf s parity ws)
+    soundHalf-decode : HalfSound s (decodeHalf s parity ws)
     unfolding decodeHalf
     soundHalf-decode =
         record {
           levelAt = λ i. decodeLevel (levelIn i);
           levels = refl;
           total = soundHalf-total;
-          sound = λ i low. soundLevel-decode s i (getD ws parity 0) (levelIn i) (soundHalf-level i low);
+          sound = λ i low. soundLevel-decode s i (getD ws (totalStart parity) 0) (levelIn i) (soundHalf-level i low);
         }
 
-    -- and have it in place
+    -- sound words have the half in its place
     placed-decode : parity ≤ 1 → length ws ≡ blockWords s → Placed s parity (decodeHalf s parity ws) (sound-sized s (decodeHalf s parity ws) soundHalf-decode) ws
     unfolding decodeHalf soundHalf-decode
     placed-decode p size =
         record {
           total = refl;
-          parts = λ i low. sym (encode-decode-sound s i (getD ws parity 0) (levelIn i) (soundHalf-level i low) (length-levelPart s parity i ws p low size));
+          parts = λ i low. sym (encode-decode-sound s i (getD ws (totalStart parity) 0) (levelIn i) (soundHalf-level i low) (length-levelPart s parity i ws p low size));
         }
 
   module _ (sound : soundBlock s ws ≡ true) where
-    -- what the test of a block tells
+    -- what follows if the test of a block holds
     pub soundBlock-halves : (soundHalf s 0 ws ≡ true) × (soundHalf s 1 ws ≡ true)
     unfolding soundBlock
     soundBlock-halves = both sound

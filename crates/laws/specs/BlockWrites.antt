@@ -1,4 +1,4 @@
--- What replacing one level or one total does to the words of a block, whatever they hold. Rests on lists in parts and on where levels stand.
+-- What replacing one level or one total does to the words of a block, whatever they are. Rests on lists in parts and on where levels start.
 use mathlib.Core.Logic.{_≢_, _⊎_}
 use mathlib.Core.Path.{_≡_, ap}
 use mathlib.Core.List.{List}
@@ -16,23 +16,23 @@ use Rattle.laws.specs.BlockWords.{levelStart-fits}
 abbrev pub withLevel : Shape → ℕ → ℕ → List ℕ → List ℕ → List ℕ
 withLevel s parity i part ws = withPart (levelStart s parity i) (levelWords s) part ws
 
--- which of the levels of both halves it is
+-- the number of the level among those of both halves
 abbrev pub levelIndex : Shape → ℕ → ℕ → ℕ
 levelIndex s parity i = parity * (s .last + 1) + i
 
 module _ (s : Shape) where
   -- two levels do not overlap
-  pub levelStart-apart : (parity i other j : ℕ) → levelIndex s parity i ≢ levelIndex s other j
+  levelStart-apart : (parity i other j : ℕ) → levelIndex s parity i ≢ levelIndex s other j
       → (levelStart s parity i + levelWords s ≤ levelStart s other j) ⊎ (levelStart s other j + levelWords s ≤ levelStart s parity i)
   unfolding levelStart
   levelStart-apart parity i other j = places-apart 2 (levelWords s) (levelIndex s parity i) (levelIndex s other j)
 
   -- the totals stand before every level
-  pub totals-before : (parity i : ℕ) → 2 ≤ levelStart s parity i
+  totals-before : (parity i : ℕ) → 2 ≤ levelStart s parity i
   unfolding levelStart
   totals-before parity i = omega arith
 
-  -- a total stored leaves every level as it is
+  -- storing a total changes no level
   pub levelPart-set-total : (parity i total v : ℕ) (ws : List ℕ) → total < 2 → levelPart s parity i (set ws total v) ≡ levelPart s parity i ws
   levelPart-set-total parity i total v ws h =
       ap (take (levelWords s)) (drop-set-lt (levelStart s parity i) ws total v (omega (arith, totals-before parity i)))
@@ -41,7 +41,7 @@ module _ (s : Shape) where
     fits : levelStart s parity i + levelWords s ≤ length ws
     fits = omega (arith, levelStart-fits s parity i p h)
 
-    -- the length stays
+    -- the number of words stays
     pub length-withLevel : length (withLevel s parity i part ws) ≡ length ws
     length-withLevel = length-withPart (levelStart s parity i) (levelWords s) part ws fits part-size
 
@@ -49,13 +49,13 @@ module _ (s : Shape) where
     pub levelPart-withLevel : levelPart s parity i (withLevel s parity i part ws) ≡ part
     levelPart-withLevel = take-drop-withPart (levelStart s parity i) (levelWords s) part ws fits part-size
 
-    -- every other level is left as it is
+    -- no other level changes
     pub levelPart-withLevel-other : (other j : ℕ) → levelIndex s other j ≢ levelIndex s parity i
         → levelPart s other j (withLevel s parity i part ws) ≡ levelPart s other j ws
     levelPart-withLevel-other other j apart =
         part-withPart (levelStart s parity i) (levelWords s) part ws fits part-size (levelStart s other j) (levelWords s) (levelStart-apart other j parity i apart)
 
-    -- and so are the totals
+    -- the totals do not change
     pub getD-withLevel-total : (total d : ℕ) → total < 2 → getD (withLevel s parity i part ws) total d ≡ getD ws total d
     getD-withLevel-total total d low =
         getD-withPart-below (levelStart s parity i) (levelWords s) part ws fits part-size total d (omega (arith, totals-before parity i))

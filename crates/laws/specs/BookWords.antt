@@ -1,5 +1,5 @@
--- A book and its words: the head and the blocks stand where the layout says, and one block can be replaced without touching a word of the rest.
--- Rests on lists in parts.
+-- A book and its words: the head and the blocks are where the layout says, and replacing one block changes no other word. Rests on lists in
+-- parts.
 use mathlib.Core.Bool.{true, cond, _&&_}
 use mathlib.Core.Logic.{_≢_, _⊎_}
 use mathlib.Core.Path.{_≡_, refl, sym, ap, _∙_}
@@ -14,25 +14,25 @@ use borrow.Author.Tests.{le-leb, leb-true, eqb-true}
 use Rattle.shape.specs.declared.Shape.{Shape}
 use Rattle.shape.specs.Limits.{shaped, between, within}
 use Rattle.shape.specs.LimitsLaws.{Limits, both, within-limits}
-use Rattle.shape.specs.Layout.{blockWords, blockStart, bookWords}
+use Rattle.shape.specs.Layout.{headLen, blockWords, blockStart, bookWords}
 use Rattle.model.specs.Block.{upFrom}
 use Rattle.model.specs.Words.{blockPart, shapeOf, clockOf, join, encodeHead, withBlock}
 use Rattle.model.specs.Sound.{maxClock, soundHead}
-use Rattle.laws.specs.Cases.{and-true}
-use Rattle.laws.specs.Parts.{Each, length-join, take-drop-join, withPart-join, join-consecutive, take-upFrom, withPart-same, length-withPart, take-drop-withPart, take-withPart, getD-withPart-below, getD-withPart-above, part-withPart, place-next, places-apart}
+use Rattle.laws.specs.Cond.{and-true}
+use Rattle.laws.specs.Parts.{EachFrom, length-join, take-drop-join, withPart-join, join-consecutive, take-upFrom, length-withPart, getD-withPart-below, getD-withPart-above, part-withPart, place-next, places-apart}
 
--- ---- where the blocks stand
+-- ---- where the blocks start
 
 module _ (s : Shape) where
   -- a block ends where the next one starts, or before a later one
-  pub blockStart-next : (i j : ℕ) → i < j → blockStart s i + blockWords s ≤ blockStart s j
+  blockStart-next : (i j : ℕ) → i < j → blockStart s i + blockWords s ≤ blockStart s j
   unfolding blockStart
-  blockStart-next = place-next 8 (blockWords s)
+  blockStart-next = place-next headLen (blockWords s)
 
   -- two blocks do not overlap
-  pub blockStart-apart : (i j : ℕ) → i ≢ j → (blockStart s i + blockWords s ≤ blockStart s j) ⊎ (blockStart s j + blockWords s ≤ blockStart s i)
+  blockStart-apart : (i j : ℕ) → i ≢ j → (blockStart s i + blockWords s ≤ blockStart s j) ⊎ (blockStart s j + blockWords s ≤ blockStart s i)
   unfolding blockStart
-  blockStart-apart = places-apart 8 (blockWords s)
+  blockStart-apart = places-apart headLen (blockWords s)
 
   -- the block of a grade lies within the book
   pub blockStart-fits : (grade : ℕ) → grade < s .g → blockStart s grade + blockWords s ≤ bookWords s
@@ -40,22 +40,22 @@ module _ (s : Shape) where
   blockStart-fits grade h = blockStart-next grade (s .g) h
 
   -- the head lies within the book
-  head-fits : 8 ≤ bookWords s
+  head-fits : headLen ≤ bookWords s
   unfolding bookWords
   head-fits = omega arith
 
   -- the head lies before every block
-  pub head-before : (grade : ℕ) → 8 ≤ blockStart s grade
+  pub head-before : (grade : ℕ) → headLen ≤ blockStart s grade
   unfolding blockStart
   head-before grade = omega arith
 
   -- words of a book's length are their first eight and their blocks
-  pub blocks-joined : (ws : List ℕ) → length ws ≡ bookWords s → take 8 ws ++ join (upFrom (λ j. blockPart s j ws) 0 (s .g)) ≡ ws
+  blocks-joined : (ws : List ℕ) → length ws ≡ bookWords s → take headLen ws ++ join (upFrom (λ j. blockPart s j ws) 0 (s .g)) ≡ ws
   unfolding bookWords blockStart
   blocks-joined ws size =
-      let start : 8 + 0 * blockWords s ≡ 8 = omega arith in
-      let all : length (drop 8 ws) ≤ s .g * blockWords s = simp length-drop (omega arith) in
-      rw (join-consecutive (blockWords s) 8 ws 0 (s .g), start, take-all (s .g * blockWords s) (drop 8 ws) all) (take-append-drop 8 ws)
+      let start : headLen + 0 * blockWords s ≡ headLen = omega arith in
+      let all : length (drop headLen ws) ≤ s .g * blockWords s = simp length-drop (omega arith) in
+      rw (join-consecutive (blockWords s) headLen ws 0 (s .g), start, take-all (s .g * blockWords s) (drop headLen ws) all) (take-append-drop headLen ws)
 
 -- ---- a book from its head and its blocks
 
@@ -63,16 +63,8 @@ module _ (s : Shape) where
 abbrev pub bookOf : Shape → ℕ → (ℕ → List ℕ) → List ℕ
 bookOf s clock f = encodeHead s clock ++ join (upFrom f 0 (s .g))
 
--- the head names its shape
-pub shapeOf-encode : (k n m g clock : ℕ) (rest : List ℕ) → shapeOf (encodeHead (shaped k n m g) clock ++ rest) ≡ shaped k n m g
-shapeOf-encode k n m g clock rest = refl
-
--- and its clock
-pub clockOf-encode : (s : Shape) (clock : ℕ) (rest : List ℕ) → clockOf (encodeHead s clock ++ rest) ≡ clock
-clockOf-encode s clock rest = refl
-
 module _ (s : Shape) (clock : ℕ) (f : ℕ → List ℕ) (sized : (j : ℕ) → j < s .g → length (f j) ≡ blockWords s) where
-  blocks-sized : Each 0 (s .g) (λ j. length (f j) ≡ blockWords s)
+  blocks-sized : EachFrom 0 (s .g) (λ j. length (f j) ≡ blockWords s)
   blocks-sized j low high = sized j (omega arith)
 
   -- a book has the length of the layout
@@ -95,7 +87,7 @@ module _ (s : Shape) (clock : ℕ) (f : ℕ → List ℕ) (sized : (j : ℕ) →
         let start : ℕ = grade * blockWords s in
         let blocks : List ℕ = join (upFrom f 0 (s .g)) in
         let head : List ℕ = encodeHead s clock in
-        rw (add-assoc 8 start (blockWords s), take-append-add head blocks start, drop-append-add head blocks (start + blockWords s))
+        rw (add-assoc headLen start (blockWords s), take-append-add head blocks start, drop-append-add head blocks (start + blockWords s))
         (ap (λ (z : List ℕ). head ++ z) (simp append-nil at (withPart-join f (blockWords s) [] 0 (s .g) blocks-sized grade grade (zero-add grade) h block)))
 
 -- ---- the head
@@ -115,29 +107,29 @@ pub soundHead-encode : (k n m g clock : ℕ) (rest : List ℕ) → Limits k n m 
 unfolding soundHead
 soundHead-encode k n m g clock rest l low = and-true (limits-within k n m g l) (and-true (le-leb clock maxClock low) refl)
 
--- what a sound head tells
+-- what follows if the head is sound
 module _ (ws : List ℕ) (sound : soundHead ws ≡ true) where
   head-tests : (within (getD ws 0 0) (getD ws 1 0) (getD ws 2 0) (getD ws 3 0) ≡ true) × ((leb (clockOf ws) maxClock && (eqb (getD ws 5 0) 0 && (eqb (getD ws 6 0) 0 && eqb (getD ws 7 0) 0))) ≡ true)
   unfolding soundHead
   head-tests = both sound
 
-  -- the shape lies within its limits
+  -- the shape is within its limits
   pub soundHead-limits : Limits (getD ws 0 0) (getD ws 1 0) (getD ws 2 0) (getD ws 3 0)
   soundHead-limits = within-limits (getD ws 0 0) (getD ws 1 0) (getD ws 2 0) (getD ws 3 0) (head-tests .0)
 
   rest-tests : (leb (clockOf ws) maxClock ≡ true) × ((eqb (getD ws 5 0) 0 && (eqb (getD ws 6 0) 0 && eqb (getD ws 7 0) 0)) ≡ true)
   rest-tests = both (head-tests .1)
 
-  -- and so does the clock
+  -- the clock is within its limit
   pub soundHead-clock : clockOf ws ≤ maxClock
   soundHead-clock = leb-true (clockOf ws) maxClock (rest-tests .0)
 
   -- the first eight words are the head of their shape and clock
-  pub take-head : 8 ≤ length ws → take 8 ws ≡ encodeHead (shapeOf ws) (clockOf ws)
+  take-head : headLen ≤ length ws → take headLen ws ≡ encodeHead (shapeOf ws) (clockOf ws)
   take-head size =
       let five : (eqb (getD ws 5 0) 0 ≡ true) × ((eqb (getD ws 6 0) 0 && eqb (getD ws 7 0) 0) ≡ true) = both (rest-tests .1) in
       let six : (eqb (getD ws 6 0) 0 ≡ true) × (eqb (getD ws 7 0) 0 ≡ true) = both (five .1) in
-      take-upFrom ws 0 8 size
+      take-upFrom ws 0 headLen size
       ∙ rw (eqb-true (getD ws 5 0) 0 (five .0), eqb-true (getD ws 6 0) 0 (six .0), eqb-true (getD ws 7 0) 0 (six .1))
 
   -- words with a sound head are a book made of its blocks
@@ -157,30 +149,18 @@ module _ (s : Shape) (grade : ℕ) (h : grade < s .g) (ws : List ℕ) (size : le
   fits = omega (arith, blockStart-fits s grade h)
 
   module _ (block : List ℕ) (block-size : length block ≡ blockWords s) where
-    -- the length stays
+    -- the number of words stays
     pub length-withBlock : length (withBlock s grade block ws) ≡ length ws
     length-withBlock = length-withPart (blockStart s grade) (blockWords s) block ws fits block-size
 
-    -- the block is the new one
-    pub blockPart-withBlock : blockPart s grade (withBlock s grade block ws) ≡ block
-    blockPart-withBlock = take-drop-withPart (blockStart s grade) (blockWords s) block ws fits block-size
-
-    -- every other block is left as it is
+    -- no other block changes
     pub blockPart-withBlock-other : (other : ℕ) → other ≢ grade → blockPart s other (withBlock s grade block ws) ≡ blockPart s other ws
     blockPart-withBlock-other other apart =
         part-withPart (blockStart s grade) (blockWords s) block ws fits block-size (blockStart s other) (blockWords s) (blockStart-apart s other grade apart)
 
-    -- and so is the head
-    pub head-withBlock : take 8 (withBlock s grade block ws) ≡ take 8 ws
-    head-withBlock = take-withPart (blockStart s grade) (blockWords s) block ws fits block-size 8 (head-before s grade)
-
-    -- and every word below or above
+    -- no word below or above changes
     pub getD-withBlock-below : (i d : ℕ) → i < blockStart s grade → getD (withBlock s grade block ws) i d ≡ getD ws i d
     getD-withBlock-below = getD-withPart-below (blockStart s grade) (blockWords s) block ws fits block-size
 
     pub getD-withBlock-above : (i d : ℕ) → blockStart s grade + blockWords s ≤ i → getD (withBlock s grade block ws) i d ≡ getD ws i d
     getD-withBlock-above = getD-withPart-above (blockStart s grade) (blockWords s) block ws fits block-size
-
--- a block put back where it stood
-pub withBlock-same : (s : Shape) (grade : ℕ) (ws : List ℕ) → withBlock s grade (blockPart s grade ws) ws ≡ ws
-withBlock-same s grade ws = withPart-same (blockStart s grade) (blockWords s) ws

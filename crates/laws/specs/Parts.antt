@@ -1,4 +1,5 @@
--- Lists made of parts of one size: their length, one part, one part replaced; and what holds of each number from i on. Rests on lists alone.
+-- Lists made of parts of one size: their length, reading one part, replacing one part; and what holds of each number from i on. Rests on
+-- lists alone.
 use mathlib.Core.Bool.{Bool, true, cond}
 use mathlib.Core.Path.{_≡_, refl, sym, ap, _∙_}
 use mathlib.Core.Logic.{_≢_, _⊎_, ⊎-elim, ⊎-map}
@@ -7,36 +8,36 @@ use Prim.Native.Nat.{ℕ, zero, suc, _+_, _-_, _*_, _≤_, _<_}
 use native.Mathlib.Nat.{zero-add, add-zero, suc-add, zero-mul, suc-mul, mul-le-mul-right}
 use native.Mathlib.Omega.{arith}
 use lib.Dec.{eqb}
-use lib.ListN.{length, getD, take, drop, replicate, length-append, length-drop, take-append-drop}
+use lib.ListN.{length, getD, take, drop, replicate, length-append, length-drop}
 use lib.Seq.{drop-cons, length-take-le, take-at, drop-at, take-add, take-take, take-append-le, drop-drop, getD-take, getD-drop}
 use borrow.Author.Tests.{eq-eqb, ne-eqb}
 use Rattle.shape.specs.LimitsLaws.{both}
 use Rattle.model.specs.Block.{upFrom}
 use Rattle.model.specs.Words.{join}
 use Rattle.model.specs.Sound.{allFrom}
-use Rattle.laws.specs.Cases.{lt-or-ge, and-true}
+use Rattle.laws.specs.Cond.{lt-or-ge, and-true}
 
--- P holds of i, i + 1 and so on, c numbers
-abbrev pub Each : ℕ → ℕ → (ℕ → Type 0) → Type 0
-Each i c P = (j : ℕ) → i ≤ j → j < i + c → P j
+-- P holds of the c numbers i, i + 1, ..
+abbrev pub EachFrom : ℕ → ℕ → (ℕ → Type 0) → Type 0
+EachFrom i c P = (j : ℕ) → i ≤ j → j < i + c → P j
 
-each-first : (P : ℕ → Type 0) (i c : ℕ) → Each i (suc c) P → P i
+each-first : (P : ℕ → Type 0) (i c : ℕ) → EachFrom i (suc c) P → P i
 each-first P i c e = e i (omega arith) (omega arith)
 
-each-rest : (P : ℕ → Type 0) (i c : ℕ) → Each i (suc c) P → Each (suc i) c P
+each-rest : (P : ℕ → Type 0) (i c : ℕ) → EachFrom i (suc c) P → EachFrom (suc i) c P
 each-rest P i c e j low high = e j (omega arith) (omega arith)
 
 -- ---- allFrom
 
 module _ (p : ℕ → Bool) where
   -- all hold if each does
-  pub allFrom-intro : (i c : ℕ) → Each i c (λ j. p j ≡ true) → allFrom p i c ≡ true
+  pub allFrom-intro : (i c : ℕ) → EachFrom i c (λ j. p j ≡ true) → allFrom p i c ≡ true
   allFrom-intro i zero e = refl
   allFrom-intro i (suc c) e =
       and-true (each-first (λ j. p j ≡ true) i c e) (allFrom-intro (suc i) c (each-rest (λ j. p j ≡ true) i c e))
 
   -- each holds if all do
-  pub allFrom-elim : (i c : ℕ) → allFrom p i c ≡ true → Each i c (λ j. p j ≡ true)
+  pub allFrom-elim : (i c : ℕ) → allFrom p i c ≡ true → EachFrom i c (λ j. p j ≡ true)
   allFrom-elim i zero e j low high = absurd (omega arith)
   allFrom-elim i (suc c) e j low high =
       let parts : (p i ≡ true) × (allFrom p (suc i) c ≡ true) = both e in
@@ -46,7 +47,7 @@ module _ (p : ℕ → Bool) where
       (lt-or-ge i j)
 
   -- the same for tests that agree
-  pub allFrom-cong : (q : ℕ → Bool) (i c : ℕ) → Each i c (λ j. p j ≡ q j) → allFrom p i c ≡ allFrom q i c
+  pub allFrom-cong : (q : ℕ → Bool) (i c : ℕ) → EachFrom i c (λ j. p j ≡ q j) → allFrom p i c ≡ allFrom q i c
   allFrom-cong q i zero e = refl
   allFrom-cong q i (suc c) e =
       rw (each-first (λ j. p j ≡ q j) i c e, allFrom-cong q (suc i) c (each-rest (λ j. p j ≡ q j) i c e))
@@ -54,18 +55,13 @@ module _ (p : ℕ → Bool) where
 -- ---- upFrom
 
 module _ {A : Type 0} (f : ℕ → A) where
-  -- as many values as asked for
-  pub length-upFrom : (i c : ℕ) → length (upFrom f i c) ≡ c
-  length-upFrom i zero = refl
-  length-upFrom i (suc c) = ap suc (length-upFrom (suc i) c)
-
   -- a function of each value
   pub map-upFrom : {B : Type 0} (g : A → B) (i c : ℕ) → map g (upFrom f i c) ≡ upFrom (λ j. g (f j)) i c
   map-upFrom g i zero = refl
   map-upFrom g i (suc c) = rw (map-upFrom g (suc i) c)
 
   -- the same values from functions that agree
-  pub upFrom-cong : (g : ℕ → A) (i c : ℕ) → Each i c (λ j. f j ≡ g j) → upFrom f i c ≡ upFrom g i c
+  pub upFrom-cong : (g : ℕ → A) (i c : ℕ) → EachFrom i c (λ j. f j ≡ g j) → upFrom f i c ≡ upFrom g i c
   upFrom-cong g i zero e = refl
   upFrom-cong g i (suc c) e =
       rw (each-first (λ j. f j ≡ g j) i c e, upFrom-cong g (suc i) c (each-rest (λ j. f j ≡ g j) i c e))
@@ -98,8 +94,8 @@ join-append [] ys = refl
 join-append (x ∷ xs) ys = rw (join-append xs ys) (sym (append-assoc x (join xs) (join ys)))
 
 module _ (i c d j : ℕ) (place : i + d ≡ j) (inside : d < c) where
-  -- what stands before part j, the part, and what stands after
-  pub join-parted : (f : ℕ → List ℕ) (rest : List ℕ)
+  -- what comes before part j, the part, and what comes after
+  join-parted : (f : ℕ → List ℕ) (rest : List ℕ)
       → join (upFrom f i c) ++ rest ≡ join (upFrom f i d) ++ (f j ++ (join (upFrom f (suc j) (c - suc d)) ++ rest))
   join-parted f rest =
       let count : c ≡ d + suc (c - suc d) = omega arith in
@@ -108,15 +104,15 @@ module _ (i c d j : ℕ) (place : i + d ≡ j) (inside : d < c) where
       rw (parts, join-append) (simp append-assoc)
 
 module _ (f : ℕ → List ℕ) (size : ℕ) where
-  -- c parts of one size
-  pub length-join : (i c : ℕ) → Each i c (λ j. length (f j) ≡ size) → length (join (upFrom f i c)) ≡ c * size
+  -- the length of c parts of one size
+  pub length-join : (i c : ℕ) → EachFrom i c (λ j. length (f j) ≡ size) → length (join (upFrom f i c)) ≡ c * size
   length-join i zero e = sym (zero-mul size)
   length-join i (suc c) e =
       let first : length (f i) ≡ size = each-first (λ j. length (f j) ≡ size) i c e in
       let rest : length (join (upFrom f (suc i) c)) ≡ c * size = length-join (suc i) c (each-rest (λ j. length (f j) ≡ size) i c e) in
       simp length-append (omega (arith, suc-mul c size))
 
-  module _ (rest : List ℕ) (i c : ℕ) (sized : Each i c (λ j. length (f j) ≡ size)) (d j : ℕ) (place : i + d ≡ j) (inside : d < c) where
+  module _ (rest : List ℕ) (i c : ℕ) (sized : EachFrom i c (λ j. length (f j) ≡ size)) (d j : ℕ) (place : i + d ≡ j) (inside : d < c) where
     abbrev before : List ℕ
     before = join (upFrom f i d)
 
@@ -129,12 +125,12 @@ module _ (f : ℕ → List ℕ) (size : ℕ) where
     length-part : length (f j) ≡ size
     length-part = sized j (omega arith) (omega arith)
 
-    -- part j is read
+    -- reading part j
     pub take-drop-join : take size (drop (d * size) (join (upFrom f i c) ++ rest)) ≡ f j
     take-drop-join =
         rw (join-parted i c d j place inside f rest, drop-at before (f j ++ after) (d * size) length-before) (take-at (f j) after size length-part)
 
-    -- part j is replaced
+    -- replacing part j
     pub withPart-join : (x : List ℕ)
         → withPart (d * size) size x (join (upFrom f i c) ++ rest) ≡ join (upFrom (λ t. cond (eqb t j) x (f t)) i c) ++ rest
     withPart-join x =
@@ -157,18 +153,14 @@ join-consecutive size start ws i (suc c) =
     let count : suc c * size ≡ size + c * size = omega (arith, suc-mul c size) in
     rw (join-consecutive size start ws (suc i) c, next, count, take-add size (c * size)) (rw drop-drop)
 
--- words one by one
+-- a stretch of words, one by one
 pub take-upFrom : (ws : List ℕ) (i c : ℕ) → i + c ≤ length ws → take c (drop i ws) ≡ upFrom (λ j. getD ws j 0) i c
 take-upFrom ws i zero h = refl
 take-upFrom ws i (suc c) h = rw (drop-cons ws i 0 (omega arith)) (ap (λ (z : List ℕ). getD ws i 0 ∷ z) (take-upFrom ws (suc i) c (omega arith)))
 
--- ---- one part of any words replaced
+-- ---- replacing one part of any words
 
--- a part put back where it stood
-pub withPart-same : (a n : ℕ) (ws : List ℕ) → withPart a n (take n (drop a ws)) ws ≡ ws
-withPart-same a n ws = rw (← drop-drop n a ws, take-append-drop n (drop a ws)) (take-append-drop a ws)
-
--- the first word of the rest
+-- the first word after i words
 getD-first : (i : ℕ) (ws : List ℕ) (d : ℕ) → getD (drop i ws) 0 d ≡ getD ws i d
 getD-first i ws d = rw add-zero at (getD-drop i ws 0 d)
 
@@ -180,20 +172,20 @@ module _ (a n : ℕ) (x ws : List ℕ) (fits : a + n ≤ length ws) (size : leng
   length-low : length (take a ws) ≡ a
   length-low = length-take-le a ws (omega arith)
 
-  -- the length stays
+  -- the number of words stays
   pub length-withPart : length (withPart a n x ws) ≡ length ws
   length-withPart = simp (length-append, length-drop) (omega (arith, length-low))
 
-  -- the part itself
+  -- the new part is there
   pub take-drop-withPart : take n (drop a (withPart a n x ws)) ≡ x
   take-drop-withPart = rw (drop-at (take a ws) (x ++ drop (a + n) ws) a length-low) (take-at x (drop (a + n) ws) n size)
 
-  -- what stands below and above it
-  pub take-withPart : (b : ℕ) → b ≤ a → take b (withPart a n x ws) ≡ take b ws
+  -- what is below and above it stays
+  take-withPart : (b : ℕ) → b ≤ a → take b (withPart a n x ws) ≡ take b ws
   take-withPart b low =
       take-append-le b (take a ws) (x ++ drop (a + n) ws) (omega (arith, length-low)) ∙ take-take b a ws low
 
-  pub drop-withPart : (b : ℕ) → a + n ≤ b → drop b (withPart a n x ws) ≡ drop b ws
+  drop-withPart : (b : ℕ) → a + n ≤ b → drop b (withPart a n x ws) ≡ drop b ws
   drop-withPart b high =
       let place : b ≡ a + n + (b - (a + n)) = omega arith in
       let p : List ℕ = take a ws ++ x in
@@ -201,7 +193,7 @@ module _ (a n : ℕ) (x ws : List ℕ) (fits : a + n ≤ length ws) (size : leng
       rw (← append-assoc (take a ws) x (drop (a + n) ws)) (drop-at p (drop (a + n) ws) (a + n) (simp length-append (omega (arith, length-low)))) in
       rw (place, ← drop-drop (b - (a + n)) (a + n) (withPart a n x ws), above) (drop-drop (b - (a + n)) (a + n) ws)
 
-  -- a word below or above it
+  -- a word below or above it stays
   pub getD-withPart-below : (i d : ℕ) → i < a → getD (withPart a n x ws) i d ≡ getD ws i d
   getD-withPart-below i d low =
       sym (getD-take (suc i) (withPart a n x ws) i d (omega arith)) ∙ ap (λ (z : List ℕ). getD z i d) (take-withPart (suc i) low) ∙ getD-take (suc i) ws i d (omega arith)
@@ -210,7 +202,7 @@ module _ (a n : ℕ) (x ws : List ℕ) (fits : a + n ≤ length ws) (size : leng
   getD-withPart-above i d high =
       sym (getD-first i (withPart a n x ws) d) ∙ ap (λ (z : List ℕ). getD z 0 d) (drop-withPart i high) ∙ getD-first i ws d
 
-  -- another part
+  -- another part stays
   part-below : (b m : ℕ) → b + m ≤ a → take m (drop b (withPart a n x ws)) ≡ take m (drop b ws)
   part-below b m low =
       sym (drop-take b m (withPart a n x ws) (omega (arith, length-withPart))) ∙ ap (drop b) (take-withPart (b + m) low) ∙ drop-take b m ws (omega arith)

@@ -1,4 +1,4 @@
--- What the code asks of a shape and of the words that it is lent, as facts that one function hands on to the next. Assumes nothing.
+-- What the code requires of a shape and of the words that it is lent, as facts that one function hands on to the next. Assumes nothing.
 use mathlib.Core.Bool.{true}
 use mathlib.Core.Path.{_≡_}
 use mathlib.Core.List.{List}
@@ -15,7 +15,7 @@ pub record Proper (s : Shape) : Type 0 where
   pub last : s .last ≡ s .m
 
 -- the words of a level that can take v decilitres at offset x, in a half of some total
-pub record Open (s : Shape) (i x v : ℕ) (ws : List ℕ) : Type 0 where
+pub record Insertable (s : Shape) (i x v : ℕ) (ws : List ℕ) : Type 0 where
   pub total : ℕ
   pub proper : Proper s
   pub index : i ≤ s .last
@@ -25,7 +25,7 @@ pub record Open (s : Shape) (i x v : ℕ) (ws : List ℕ) : Type 0 where
   pub some : 0 < v
   pub room : total + v ≤ 2 ^ s .m
 
--- the words of a block, of any content
+-- words of a block's length, of any content
 pub record Sized (s : Shape) (ws : List ℕ) : Type 0 where
   pub proper : Proper s
   pub size : length ws ≡ blockWords s

@@ -1,4 +1,4 @@
--- The first refusal that holds, what a call settles by it, and what an accepted call tells of its view. Assumes nothing.
+-- The first refusal that holds, what it decides, and what follows of the view if a call is accepted. Assumes nothing.
 use mathlib.Core.Bool.{Bool, true, false, true≢false, cond, not, _||_}
 use mathlib.Core.Path.{_≡_, refl, sym, _∙_}
 use mathlib.Core.List.{List}
@@ -9,7 +9,7 @@ use lib.ListN.{length}
 use borrow.Author.Tests.{eq-eqb, ne-eqb, not-false, ltb-true, ltb-false, eqb-true}
 use Rattle.shape.specs.declared.Shape.{Shape}
 use Rattle.shape.specs.Limits.{refused, within, shaped}
-use Rattle.shape.specs.Layout.{bookWords}
+use Rattle.shape.specs.Layout.{headLen, bookWords}
 use Rattle.model.specs.declared.Call.{Call}
 use Rattle.model.specs.declared.Call.the-variants.{Make, Clock, Delivery, Query}
 use Rattle.model.specs.declared.Refusal.{Refusal}
@@ -20,7 +20,7 @@ use Rattle.model.specs.Words.{blockPart, decodeBlock}
 use Rattle.model.specs.Sound.{allFrom, maxClock, soundHead, soundBlock}
 use Rattle.model.specs.Calls.{View, firstOf, opened, refusals, Outcome, outcomeOf, settle, bookView, accept, perform}
 use Rattle.model.specs.Ledger.{Ledger, ledgerView, note, enter}
-use Rattle.laws.specs.Cases.{by-eq}
+use Rattle.laws.specs.Cond.{by-eq}
 
 -- no refusal has the number 0
 pub numberOf-pos : (r : Refusal) → numberOf r ≡ 0 → ⊥
@@ -37,7 +37,7 @@ numberOf-pos Back e = omega arith
 numberOf-pos Block e = omega arith
 numberOf-pos Full e = omega arith
 
--- what the refusals see of words that stand for this shape and this clock
+-- the view of words of this shape and this clock
 abbrev pub viewOf : Shape → ℕ → List ℕ → View
 viewOf s clock ws = record {
   lent = length ws;
@@ -48,13 +48,13 @@ viewOf s clock ws = record {
   total = λ grade stamp. halfOf (interval s stamp) (decodeBlock s (blockPart s grade ws)) .total;
 }
 
--- lists of refusals that begin alike: the rest is compared where the first condition does not hold
+-- two lists of refusals with the same first one: the rest matters only if its condition does not hold
 pub past : (a : Bool) (x : ℕ) {y z : ℕ} → (a ≡ false → y ≡ z) → cond a x y ≡ cond a x z
 past true x h = refl
 past false x h = h refl
 
--- a number that is not the first one's comes from further down
-pub further : (a : Bool) (x : ℕ) {y z : ℕ} → (x ≡ z → ⊥) → cond a x y ≡ z → (a ≡ false) × (y ≡ z)
+-- a number other than the first one's comes from further down
+further : (a : Bool) (x : ℕ) {y z : ℕ} → (x ≡ z → ⊥) → cond a x y ≡ z → (a ≡ false) × (y ≡ z)
 further true x other h = absurd (other h)
 further false x other h = (refl, h)
 
@@ -62,15 +62,15 @@ module _ {A : Type 0} (rs : List (Bool × ℕ)) (before : A) (done : Outcome A) 
   pub settle-accepted : firstOf rs ≡ 0 → settle rs before done ≡ done
   settle-accepted h = rw (eq-eqb (firstOf rs) 0 h)
 
-  -- the number answered is that of the first refusal that holds
-  pub settle-number : done .reply .number ≡ 0 → settle rs before done .reply .number ≡ firstOf rs
+  -- the number of the reply is that of the first refusal that holds
+  settle-number : done .reply .number ≡ 0 → settle rs before done .reply .number ≡ firstOf rs
   settle-number h =
       by-eq (firstOf rs) 0 (λ (o : Outcome A). o .reply .number ≡ firstOf rs) (λ none. h ∙ sym none) (λ some. refl)
 
   pub settle-refused : (firstOf rs ≡ 0 → ⊥) → settle rs before done ≡ outcomeOf (refused (firstOf rs)) before
   settle-refused h = rw (ne-eqb (firstOf rs) 0 h)
 
--- the number that a call is answered, on any words and by any ledger
+-- the number of the reply to a call, by any book and by any ledger
 pub perform-number : (ws : List ℕ) (call : Call) → perform ws call .reply .number ≡ firstOf (refusals (bookView ws) call)
 unfolding perform
 perform-number ws call = settle-number (refusals (bookView ws) call) ws (accept ws call) (zero call)
@@ -91,14 +91,14 @@ enter-number lent l call = settle-number (refusals (ledgerView lent l) call) l (
     zero (Delivery grade stamp volume) = refl
     zero (Query grade window) = refl
 
--- ---- what is known once no refusal, or no earlier one, holds; for the view of a book and for that of a ledger
+-- ---- what follows if no refusal, or no earlier one, holds, for the view of a book or of a ledger
 
--- clock, delivery and question begin alike
+-- clock, delivery and question begin with the same refusals
 opened-facts : (v : View) {y z : ℕ} → (2 ≡ z → ⊥) → (7 ≡ z → ⊥)
-    → cond (ltb (v .lent) 8) 2 (cond (not (v .headSound)) 7 (cond (not (eqb (v .lent) (bookWords (v .shape)))) 2 y)) ≡ z
+    → cond (ltb (v .lent) headLen) 2 (cond (not (v .headSound)) 7 (cond (not (eqb (v .lent) (bookWords (v .shape)))) 2 y)) ≡ z
     → (v .headSound ≡ true) × (v .lent ≡ bookWords (v .shape)) × (y ≡ z)
 opened-facts v two seven h =
-    let long = further (ltb (v .lent) 8) 2 two h in
+    let long = further (ltb (v .lent) headLen) 2 two h in
     let head = further (not (v .headSound)) 7 seven (long .1) in
     let size = further (not (eqb (v .lent) (bookWords (v .shape)))) 2 two (head .1) in
     (not-false _ (head .0), eqb-true (v .lent) (bookWords (v .shape)) (not-false _ (size .0)), size .1)
@@ -158,7 +158,7 @@ module _ (v : View) (grade stamp volume : ℕ) where
   ended false false true h = absurd (omega arith)
   ended false false false h = absurd (omega arith)
 
-  -- 9 is answered for late stamps only
+  -- only late stamps are refused under 9
   pub late-delivery : firstOf (refusals v (Delivery grade stamp volume)) ≡ 9 → late (v .shape) (v .clock) stamp ≡ true
   late-delivery h =
       ended (late (v .shape) (v .clock) stamp) (not (v .blockSound grade)) (ltb (2 ^ v .shape .m) (v .total grade stamp + volume))
@@ -208,7 +208,7 @@ accepted-clock v clock h =
       sound = not-false _ (sound .0);
     }
 
--- an accepted make reads nothing of the view but how much is lent
+-- an accepted make depends only on its numbers and on how much is lent
 pub accepted-make : (v : View) (k n m g : ℕ) → firstOf (refusals v (Make k n m g)) ≡ 0 → (within k n m g ≡ true) × (v .lent ≡ bookWords (shaped k n m g))
 unfolding refusals
 accepted-make v k n m g h =

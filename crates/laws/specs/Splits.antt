@@ -1,5 +1,5 @@
--- How often a delivery splits a bucket of one level: at most as often as the width of the bucket that it falls into can be halved,
--- so at most k times. Rests on the laws of one round.
+-- How often a delivery splits a bucket of one level: at most as often as the width of the bucket that spans its offset can be halved, so at
+-- most k times. Rests on the laws of one round.
 use mathlib.Core.Bool.{cond, _&&_}
 use mathlib.Core.Logic.{⊎-elim}
 use mathlib.Core.Path.{_≡_, refl, ap, subst, _∙_}
@@ -12,18 +12,18 @@ use lib.Dec.{ltb, eqb, eqb→eq, ltb→lt}
 use lib.ListN.{length, length-append}
 use lib.Pow.{pow-pos}
 use Rattle.model.specs.Level.{Bucket, Level, bucketOf, levelOf, holds, evict, insert}
-use Rattle.laws.specs.Cases.{by-both, lt-or-ge}
-use Rattle.laws.specs.Buckets.{raised, halves, holds-inside}
-use Rattle.laws.specs.Batch.{Uncovered, insert-add, insert-below}
-use Rattle.laws.specs.SoundFacts.{Chained, SoundLevel}
-use Rattle.laws.specs.Round.{Passed, passed-uncovered, passed-snoc, Round, both, upper, upper-held, upper-split, one-round, place-parts, chained-covering}
+use Rattle.laws.specs.Cond.{by-both, lt-or-ge}
+use Rattle.laws.specs.Bucket.{raised, halves, holds-inside}
+use Rattle.laws.specs.Insert.{Uncovered, insert-add, insert-below}
+use Rattle.laws.specs.SoundLevel.{Chained, SoundLevel}
+use Rattle.laws.specs.Evict.{Passed, passed-uncovered, passed-snoc, Round, both, upper, upper-held, upper-split, one-round, slotOf-parts, chained-covering}
 
--- 1 where a decilitre at offset x splits a bucket of level i
+-- 1 if a decilitre at offset x splits a bucket of level i, else 0
 abbrev pub splitsOne : ℕ → ℕ → List Bucket → ℕ
 splitsOne i x [] = 0
 splitsOne i x (b ∷ bs) = cond (holds b x) (cond (eqb (suc (b .weight)) (2 ^ suc i) && ltb 1 (b .width)) 1 0) (splitsOne i x bs)
 
--- how many of v decilitres do, one after another
+-- how many of v decilitres split a bucket, one after another
 abbrev pub splitsAll : ℕ → ℕ → ℕ → ℕ → Level → ℕ
 splitsAll n i x zero l = 0
 splitsAll n i x (suc v) l = splitsAll n i x v l + cond (ltb x (insert n i x v l .first)) 0 (splitsOne i x (insert n i x v l .buckets))
@@ -41,8 +41,8 @@ module _ (n i x : ℕ) where
   splits-past [] u rest = refl
   splits-past (c ∷ before) u rest = rw (u .0) (splits-past before (u .1) rest)
 
--- the bucket that x falls into can be halved `size` times
-pub record Halvable (n i x f : ℕ) (before : List Bucket) (b : Bucket) (after : List Bucket) (size : ℕ) : Type 0 where
+-- the bucket that spans x can be halved `size` times
+record Halvable (n i x f : ℕ) (before : List Bucket) (b : Bucket) (after : List Bucket) (size : ℕ) : Type 0 where
   pub kept : f ≤ x
   pub passed : Passed x before
   pub low : b .offset ≤ x
@@ -56,7 +56,7 @@ module _ (n i x : ℕ) (from : 0 < i) where
     level : Level
     level = levelOf f (before ++ b ∷ after)
 
-    -- what one more does, once v are in
+    -- what one more decilitre does after v
     one-more : (v : ℕ) → (1 < b .width → b .weight + v < 2 ^ suc i) → (P : ℕ → Type 0)
         → (suc (b .weight + v) ≡ 2 ^ suc i → 1 < b .width → P (splitsAll n i x v level + 1)) → P (splitsAll n i x v level + 0) → P (splitsAll n i x (suc v) level)
     unfolding level
@@ -76,7 +76,7 @@ module _ (n i x : ℕ) (from : 0 < i) where
         let less : 1 < b .width → b .weight + v < 2 ^ suc i = λ long. omega (arith, room long) in
         one-more v less (λ z. z ≡ 0) (λ full long. absurd (omega (arith, room long))) (omega (arith, none v less))
 
-    -- the one that fills the bucket splits it
+    -- the decilitre that fills the bucket splits it
     filling : (v : ℕ) → 1 < b .width → suc (b .weight + v) ≡ 2 ^ suc i → splitsAll n i x (suc v) level ≤ 1
     filling v long full =
         let room : 1 < b .width → b .weight + v < 2 ^ suc i = λ _. omega arith in
@@ -88,7 +88,7 @@ module _ (n i x : ℕ) (from : 0 < i) where
         let left : b .weight + suc v - 2 ^ suc i ≡ 0 = omega arith in
         rw left at (upper-split n x f (h .kept) before (h .passed) b (h .low) (h .high) after (h .few) i from (suc v) long (h .light long) (omega arith))
 
-    -- what a split leaves is split less often: x falls into a half, or below F
+    -- what a split leaves is split less often: x is in a half, or below F
     module _ (less : ℕ) (power : size ≡ suc less)
         (again : (v f : ℕ) (before : List Bucket) (b : Bucket) (after : List Bucket) → Halvable n i x f before b after less → splitsAll n i x v (levelOf f (before ++ b ∷ after)) ≤ less) where
       abbrev half : ℕ
@@ -126,7 +126,7 @@ module _ (n i x : ℕ) (from : 0 < i) where
           (λ (above : b .offset + half ≤ x). half-again v (b .offset + half) [] (b .offset + half) after above tt above (omega (arith, h .high, width-is)) (omega arith))
           (lt-or-ge x (b .offset + half)))
 
-  pub splits-most : (size v f : ℕ) (before : List Bucket) (b : Bucket) (after : List Bucket) → Halvable n i x f before b after size
+  splits-most : (size v f : ℕ) (before : List Bucket) (b : Bucket) (after : List Bucket) → Halvable n i x f before b after size
       → splitsAll n i x v (levelOf f (before ++ b ∷ after)) ≤ size
   unfolding level
   splits-most zero v f before b after h = omega (arith, none h v (λ long. absurd (omega (arith, h .power))))
@@ -151,7 +151,7 @@ level-splits k n j total x v l inside s =
     ⊎-elim
     (λ (below : x < l .first). omega (arith, splits-below n (suc j) x v l below))
     (λ (kept : l .first ≤ x).
-    let p = place-parts x (l .buckets) in
+    let p = slotOf-parts x (l .buckets) in
     let chained = subst (Chained k (suc j) (length (l .buckets)) (l .first)) (p .same) (s .parts .1) in
     let c = chained-covering k (suc j) (length (l .buckets)) x inside (p .after) (p .ends) (l .first) (p .before) kept (p .passed) chained in
     let shape = c .sound .shape in

@@ -1,14 +1,12 @@
--- Book and ledger find the same first refusal for every call.
--- Rests on the words of a ledger being a sound book.
+-- Book and ledger find the same first refusal for every call. Rests on the words of a ledger being a sound book.
 use mathlib.Core.Bool.{true, not, _||_}
-use mathlib.Core.Path.{_≡_, refl, ap}
+use mathlib.Core.Path.{_≡_, refl, ap, ap₂}
 use mathlib.Core.List.{List}
 use Prim.Native.Nat.{ℕ, _+_, _^_, _≤_, _<_}
 use lib.Dec.{ltb, eqb}
 use lib.ListN.{length}
 use borrow.Author.Tests.{not-false, ltb-true, ltb-false}
 use Rattle.shape.specs.declared.Shape.{Shape}
-use Rattle.shape.specs.Limits.{shaped}
 use Rattle.shape.specs.Layout.{bookWords}
 use Rattle.model.specs.declared.Call.{Call}
 use Rattle.model.specs.declared.Call.the-variants.{Make, Clock, Delivery, Query}
@@ -16,51 +14,56 @@ use Rattle.model.specs.Block.{Half, interval, late, halfOf}
 use Rattle.model.specs.Words.{blockPart, decodeBlock}
 use Rattle.model.specs.Sound.{allFrom}
 use Rattle.model.specs.Calls.{View, firstOf, refusals, bookView}
-use Rattle.model.specs.Ledger.{Entry, ledgerOf, ledgerView, volumeOf, ofInterval}
+use Rattle.model.specs.Ledger.{Entry, Ledger, ledgerView, volumeOf, ofGrade, ofInterval}
 use Rattle.laws.specs.Parts.{allFrom-intro}
 use Rattle.laws.specs.Refusals.{viewOf, past}
 use Rattle.ledger.specs.Time.{interval-mono, interval-near}
 use Rattle.ledger.specs.Grown.{halfFed}
 use Rattle.ledger.specs.Book.{halfOf-served}
-use Rattle.ledger.specs.State.{Good, wordsOf, words-head, words-block, words-sound, words-all-sound}
+use Rattle.ledger.specs.State.{Good, wordsOf, words-head, words-shape, words-clock, words-block, words-sound, words-all-sound}
 
-module _ (k n m g clock : ℕ) (es : List Entry) where
+module _ (l : Ledger) (good : Good l) where
   abbrev s : Shape
-  s = shaped k n m g
+  s = l .shape
+
+  abbrev clock : ℕ
+  clock = l .clock
+
+  abbrev es : List Entry
+  es = l .entries
 
   abbrev ws : List ℕ
-  ws = wordsOf s clock es
+  ws = wordsOf l
 
-  pub bookView-grown : bookView ws ≡ viewOf s clock ws
-  unfolding bookView wordsOf
-  bookView-grown = refl
+  bookView-grown : bookView ws ≡ viewOf s clock ws
+  unfolding bookView
+  bookView-grown = ap₂ (λ (z : Shape) (c : ℕ). viewOf z c ws) (words-shape l good) (words-clock l good)
 
   abbrev exactView : View
-  exactView = ledgerView (length ws) (ledgerOf s clock es)
+  exactView = ledgerView (length ws) l
 
-  module _ (good : Good k n m g clock es) where
-    -- the total of the half that serves a stamp which is neither ahead nor late
-    total-agrees : (grade stamp : ℕ) → grade < g → stamp ≤ clock → clock ≤ stamp + 2 ^ k
-        → halfOf (interval s stamp) (decodeBlock s (blockPart s grade ws)) .total ≡ volumeOf (ofInterval s grade (interval s stamp)) es
-    unfolding halfFed
-    total-agrees grade stamp h low high =
-        rw (words-block k n m g clock es good grade h)
-        (ap (λ (x : Half). x .total) (halfOf-served s clock es grade (interval s stamp) (interval-mono s low) (interval-near s stamp clock high)))
+  -- the total of the half that serves a stamp, if the stamp is neither ahead nor late
+  total-agrees : (grade stamp : ℕ) → grade < s .g → stamp ≤ clock → clock ≤ stamp + 2 ^ s .k
+      → halfOf (interval s stamp) (decodeBlock s (blockPart s grade ws)) .total ≡ volumeOf (ofInterval s (ofGrade grade) (interval s stamp)) es
+  unfolding halfFed
+  total-agrees grade stamp h low high =
+      rw (words-block l good grade h)
+      (ap (λ (x : Half). x .total) (halfOf-served s clock es (ofGrade grade) (interval s stamp) (interval-mono s low) (interval-near s stamp clock high)))
 
-    pub agree : (call : Call) → firstOf (refusals (bookView ws) call) ≡ firstOf (refusals exactView call)
-    unfolding refusals ledgerView
-    agree (Make k′ n′ m′ g′) = rw bookView-grown
-    agree (Clock to) =
-        let all : allFrom (λ grade. true) 0 g ≡ true = allFrom-intro (λ grade. true) 0 g (λ j low high. refl) in
-        rw (bookView-grown, words-head k n m g clock es good, words-all-sound k n m g clock es good, all)
-    agree (Delivery grade stamp volume) =
-        rw (bookView-grown, words-head k n m g clock es good)
-        (past (ltb (length ws) 8) 2 (λ _. past (not (eqb (length ws) (bookWords s))) 2 (λ _. past (not (ltb grade g)) 3 (λ inside.
-        let h : grade < g = ltb-true grade g (not-false (ltb grade g) inside) in
-        past (eqb volume 0 || ltb 65535 volume) 4 (λ _. past (ltb clock stamp) 8 (λ low. past (late s clock stamp) 9 (λ high.
-        rw (words-sound k n m g clock es good grade h, total-agrees grade stamp h (ltb-false clock stamp low) (ltb-false (stamp + 2 ^ k) clock high)))))))))
-    agree (Query grade window) =
-        rw (bookView-grown, words-head k n m g clock es good)
-        (past (ltb (length ws) 8) 2 (λ _. past (not (eqb (length ws) (bookWords s))) 2 (λ _. past (not (ltb grade g)) 3 (λ inside.
-        let h : grade < g = ltb-true grade g (not-false (ltb grade g) inside) in
-        rw (words-sound k n m g clock es good grade h)))))
+  pub agree : (call : Call) → firstOf (refusals (bookView ws) call) ≡ firstOf (refusals exactView call)
+  unfolding refusals ledgerView
+  agree (Make k′ n′ m′ g′) = rw bookView-grown
+  agree (Clock to) =
+      let all : allFrom (λ grade. true) 0 (s .g) ≡ true = allFrom-intro (λ grade. true) 0 (s .g) (λ j low high. refl) in
+      rw (bookView-grown, words-head l good, words-all-sound l good, all)
+  agree (Delivery grade stamp volume) =
+      rw (bookView-grown, words-head l good)
+      (past (ltb (length ws) 8) 2 (λ _. past (not (eqb (length ws) (bookWords s))) 2 (λ _. past (not (ltb grade (s .g))) 3 (λ inside.
+      let h : grade < s .g = ltb-true grade (s .g) (not-false (ltb grade (s .g)) inside) in
+      past (eqb volume 0 || ltb 65535 volume) 4 (λ _. past (ltb clock stamp) 8 (λ low. past (late s clock stamp) 9 (λ high.
+      rw (words-sound l good grade h, total-agrees grade stamp h (ltb-false clock stamp low) (ltb-false (stamp + 2 ^ s .k) clock high)))))))))
+  agree (Query grade window) =
+      rw (bookView-grown, words-head l good)
+      (past (ltb (length ws) 8) 2 (λ _. past (not (eqb (length ws) (bookWords s))) 2 (λ _. past (not (ltb grade (s .g))) 3 (λ inside.
+      let h : grade < s .g = ltb-true grade (s .g) (not-false (ltb grade (s .g)) inside) in
+      rw (words-sound l good grade h)))))

@@ -1,5 +1,5 @@
--- Grades do not touch: a delivery changes no word outside its grade's block and no answer to a question of another grade, on words of
--- any content. Rests on the codec's laws and on soundness being kept.
+-- Grades do not touch (SPECIFICATION 10): a delivery changes no word outside its grade's block and no answer to a question of another grade,
+-- on words of any content. Rests on the codec's laws and on soundness being kept.
 use mathlib.Core.Bool.{Bool, true, false, cond, not}
 use mathlib.Core.Path.{_≡_, refl, sym, ap, ap₂, _∙_}
 use mathlib.Core.Logic.{_⊎_, inl, ⊎-elim, _≢_}
@@ -16,14 +16,14 @@ use Rattle.model.specs.Block.{Block, opening, answer, deliver}
 use Rattle.model.specs.Words.{shapeOf, clockOf, blockPart, decodeBlock, encodeBlock, withBlock}
 use Rattle.model.specs.Sound.{soundHead, soundBlock}
 use Rattle.model.specs.Calls.{View, blockAt, firstOf, opened, refusals, bookView, outcomeOf, accept, perform, delivered}
-use Rattle.laws.specs.Cases.{eq-or-ne}
+use Rattle.laws.specs.Cond.{eq-or-ne}
 use Rattle.laws.specs.Proper.{Proper}
 use Rattle.laws.specs.BlockWords.{soundBlock-decode}
-use Rattle.laws.specs.BlockKept.{deliver-both, both-size}
+use Rattle.laws.specs.BlockSound.{deliver-both, both-size}
 use Rattle.laws.specs.BookWords.{soundHead-limits, head-before, length-withBlock, blockPart-withBlock-other, getD-withBlock-below, getD-withBlock-above}
 use Rattle.laws.specs.Refusals.{AcceptedDelivery, accepted-delivery, settle-accepted, settle-refused}
 
--- ---- what the answer to a question is made of
+-- ---- what the reply to a question depends on
 
 abbrev queryReply : ℕ → Bool → Shape → ℕ → Bool → Block → ℕ → ℕ → Reply
 queryReply lent headSound s clock blockSound b grade window =
@@ -42,7 +42,7 @@ query-reply ws grade window = go (eqb (firstOf (refusals (bookView ws) (Query gr
     go true = refl
     go false = refl
 
--- words that agree in length, in the head and in the grade's block give the same answers to its questions
+-- words that agree in length, in the head and in the grade's block give the same replies to its questions
 module _ (ws vs : List ℕ) (lengths : length vs ≡ length ws) (heads : (i : ℕ) → i < 8 → getD vs i 0 ≡ getD ws i 0) where
   shape-same : shapeOf vs ≡ shapeOf ws
   shape-same = rw (heads 0 (omega arith), heads 1 (omega arith), heads 2 (omega arith), heads 3 (omega arith))
@@ -78,7 +78,7 @@ module _ (ws : List ℕ) (grade stamp volume : ℕ) where
   abbrev after : List ℕ
   after = perform ws (Delivery grade stamp volume) .left
 
-  -- the words afterwards: the same, or with another block in place of the grade's
+  -- the words afterwards are the same, or have another block in place of the grade's
   abbrev block : List ℕ
   block = encodeBlock s (deliver s stamp volume (blockAt ws grade))
 
@@ -113,7 +113,7 @@ module _ (ws : List ℕ) (grade stamp volume : ℕ) where
         both-size s proper (deliver s stamp volume (blockAt ws grade))
         (deliver-both s proper stamp volume (blockAt ws grade) (soundBlock-decode s (blockPart s grade ws) (facts .sound)) (facts .room))
 
-  -- outside the grade's block no word changes, nor does their number
+  -- outside the grade's block no word changes, and the number of words stays
   pub apart-words : (length after ≡ length ws) × ((i : ℕ) → (i < blockStart s grade) ⊎ (blockStart s grade + blockWords s ≤ i) → getD after i 0 ≡ getD ws i 0)
   apart-words =
       ⊎-elim
@@ -134,7 +134,7 @@ module _ (ws : List ℕ) (grade stamp volume : ℕ) where
       (λ (h : number ≡ 0 → ⊥). rw (after-refused h))
       (eq-or-ne number 0)
 
-  -- no answer to a question of another grade changes, whatever the words, whatever the window
+  -- no reply to a question of another grade changes, whatever the words and the window are
   pub apart-answers : (other window : ℕ) → other ≢ grade → perform after (Query other window) .reply ≡ perform ws (Query other window) .reply
   apart-answers other window apart =
       reply-same ws after (apart-words .0) (λ i low. apart-words .1 i (inl (omega (arith, head-before s grade)))) other window (apart-block other apart)

@@ -1,13 +1,13 @@
--- Demand 3, whole: `Claim` of the model, by one induction over the list of calls. The invariant is that the words are those of the
+-- The claim (demand 3): `Claim` of the model, by one induction over the list of calls. The invariant is that the words are those of the
 -- ledger. Rests on `agree` (the same first refusal), on what each accepted call leaves, and on the bound of an answer.
 use mathlib.Core.Bool.{true}
-use mathlib.Core.Path.{_≡_, refl, sym, ap, _∙_}
+use mathlib.Core.Path.{_≡_, refl, sym, ap, ap₂, _∙_}
 use mathlib.Core.Logic.{⊎-elim}
 use mathlib.Core.List.{List, [], _∷_}
 use Prim.Native.Nat.{ℕ, _+_, _^_, _≤_, _<_}
 use native.Mathlib.Nat.{le-refl}
 use native.Mathlib.Omega.{arith}
-use lib.ListN.{length}
+use lib.ListN.{length, getD}
 use borrow.Author.Tests.{lt-ltb, ltb-true}
 use Rattle.shape.specs.declared.Shape.{Shape}
 use Rattle.shape.specs.Limits.{shaped}
@@ -16,40 +16,38 @@ use Rattle.model.specs.declared.Call.the-variants.{Make, Clock, Delivery, Query
 use Rattle.model.specs.Block.{late, answer, opening}
 use Rattle.model.specs.Words.{shapeOf, clockOf}
 use Rattle.model.specs.Calls.{View, blockAt, firstOf, refusals, bookView, accept, perform, clocked, delivered}
-use Rattle.model.specs.Ledger.{Entry, Ledger, ledgerOf, ledgerView, note, enter}
-use Rattle.model.specs.Claim.{Turn, run, ByCall, Bound, Span, Outside, Kept, Claim}
-use Rattle.laws.specs.Cases.{eq-or-ne}
+use Rattle.model.specs.Ledger.{Entry, Ledger, ledgerOf, volumeOf, ofGrade, ofWindow, ledgerView, note, enter}
+use Rattle.model.specs.Claim.{Turn, run, ByCall, Admits, Bound, Span, Outside, Kept, Claim}
+use Rattle.laws.specs.Cond.{eq-or-ne}
 use Rattle.laws.specs.Refusals.{accepted-make, accepted-clock, accepted-delivery, accepted-query, late-delivery, settle-accepted, settle-refused, perform-number, enter-number}
 use Rattle.ledger.specs.Time.{late-outside}
 use Rattle.ledger.specs.Book.{blockFor}
-use Rattle.ledger.specs.State.{Good, wordsOf}
+use Rattle.ledger.specs.State.{Good, wordsOf, words-shape, words-clock}
 use Rattle.ledger.specs.Agree.{agree}
-use Rattle.ledger.specs.Next.{made-words, made-good, shape-is, block-is, clocked-words, clocked-good, delivered-words, delivered-good}
+use Rattle.ledger.specs.Next.{made-words, made-good, block-is, clocked-words, clocked-good, delivered-words, delivered-good}
 use Rattle.ledger.specs.Window.{answer-admits}
 
--- what a call leads to: the words and the ledger afterwards, which stand for each other; within a span k stays and the clock does not fall
-pub record Next (k n m g clock : ℕ) (es : List Entry) (call : Call) : Type 0 where
-  pub k′ : ℕ
-  pub n′ : ℕ
-  pub m′ : ℕ
-  pub g′ : ℕ
-  pub clock′ : ℕ
-  pub es′ : List Entry
-  pub good : Good k′ n′ m′ g′ clock′ es′
-  pub book : perform (wordsOf (shaped k n m g) clock es) call .left ≡ wordsOf (shaped k′ n′ m′ g′) clock′ es′
-  pub exact : enter (length (wordsOf (shaped k n m g) clock es)) (ledgerOf (shaped k n m g) clock es) call .left ≡ ledgerOf (shaped k′ n′ m′ g′) clock′ es′
-  pub span : ByCall (perform (wordsOf (shaped k n m g) clock es) call .reply .number ≡ 0 → ⊥) (Unit {0}) (λ _. Unit {0}) (λ _. Unit {0}) call
-      → (k′ ≡ k) × (clock ≤ clock′)
+-- what a call leads to: the ledger afterwards, whose words are then the book's; within a span k stays and the clock does not fall
+pub record Next (l : Ledger) (call : Call) : Type 0 where
+  pub later : Ledger
+  pub good : Good later
+  pub book : perform (wordsOf l) call .left ≡ wordsOf later
+  pub exact : enter (length (wordsOf l)) l call .left ≡ later
+  pub span : ByCall (perform (wordsOf l) call .reply .number ≡ 0 → ⊥) (Unit {0}) (λ _. Unit {0}) (λ _ _. Unit {0}) call
+      → (later .shape .k ≡ l .shape .k) × (l .clock ≤ later .clock)
 
-module _ (k n m g clock : ℕ) (es : List Entry) (good : Good k n m g clock es) where
+module _ (l : Ledger) (good : Good l) where
   abbrev s : Shape
-  s = shaped k n m g
+  s = l .shape
+
+  abbrev clock : ℕ
+  clock = l .clock
+
+  abbrev es : List Entry
+  es = l .entries
 
   abbrev ws : List ℕ
-  ws = wordsOf s clock es
-
-  abbrev l : Ledger
-  l = ledgerOf s clock es
+  ws = wordsOf l
 
   abbrev exactView : View
   exactView = ledgerView (length ws) l
@@ -61,7 +59,7 @@ module _ (k n m g clock : ℕ) (es : List Entry) (good : Good k n m g clock es) 
   exactFirst call = firstOf (refusals exactView call)
 
   same-first : (call : Call) → first call ≡ exactFirst call
-  same-first = agree k n m g clock es good
+  same-first = agree l good
 
   -- ---- both sides of a call, accepted and refused
 
@@ -74,7 +72,7 @@ module _ (k n m g clock : ℕ) (es : List Entry) (good : Good k n m g clock es) 
     unfolding enter
     exact-accepted h = settle-accepted (refusals (ledgerView (length ws) l) call) l (note l call) (sym (same-first call) ∙ h)
 
-    -- a refused call changes neither
+    -- a refused call changes neither the book nor the ledger
     book-refused : (first call ≡ 0 → ⊥) → perform ws call .left ≡ ws
     unfolding perform
     book-refused h = ap (λ o. o .left) (settle-refused (refusals (bookView ws) call) ws (accept ws call) h)
@@ -83,19 +81,8 @@ module _ (k n m g clock : ℕ) (es : List Entry) (good : Good k n m g clock es) 
     unfolding enter
     exact-refused h = ap (λ o. o .left) (settle-refused (refusals exactView call) l (note l call) (λ e. h (same-first call ∙ e)))
 
-    same-next : perform ws call .left ≡ ws → enter (length ws) l call .left ≡ l → Next k n m g clock es call
-    same-next book exact = record {
-      k′ = k;
-      n′ = n;
-      m′ = m;
-      g′ = g;
-      clock′ = clock;
-      es′ = es;
-      good = good;
-      book = book;
-      exact = exact;
-      span = λ _. (refl, le-refl clock);
-    }
+    same-next : perform ws call .left ≡ ws → enter (length ws) l call .left ≡ l → Next l call
+    same-next book exact = record { later = l; good = good; book = book; exact = exact; span = λ _. (refl, le-refl clock) }
 
     same-number : perform ws call .reply .number ≡ enter (length ws) l call .reply .number
     same-number = perform-number ws call ∙ same-first call ∙ sym (enter-number (length ws) l call)
@@ -106,61 +93,46 @@ module _ (k n m g clock : ℕ) (es : List Entry) (good : Good k n m g clock es) 
     exact-first : exactFirst call ≡ 0
     exact-first = sym (same-first call) ∙ h
 
-  make-next : (k′ n′ m′ g′ : ℕ) → first (Make k′ n′ m′ g′) ≡ 0 → Next k n m g clock es (Make k′ n′ m′ g′)
+  make-next : (k′ n′ m′ g′ : ℕ) → first (Make k′ n′ m′ g′) ≡ 0 → Next l (Make k′ n′ m′ g′)
   make-next k′ n′ m′ g′ h =
       let call : Call = Make k′ n′ m′ g′ in
       record {
-        k′ = k′;
-        n′ = n′;
-        m′ = m′;
-        g′ = g′;
-        clock′ = 0;
-        es′ = [];
+        later = ledgerOf (shaped k′ n′ m′ g′) 0 [];
         good = made-good k′ n′ m′ g′ (accepted-make (bookView ws) k′ n′ m′ g′ h .0);
         book = ap (λ o. o .left) (book-accepted call h) ∙ made-words (shaped k′ n′ m′ g′);
         exact = ap (λ o. o .left) (exact-accepted call h);
         span = λ refused. absurd (refused (perform-number ws call ∙ h));
       }
 
-  clock-next : (to : ℕ) → first (Clock to) ≡ 0 → Next k n m g clock es (Clock to)
+  clock-next : (to : ℕ) → first (Clock to) ≡ 0 → Next l (Clock to)
   unfolding ledgerView
   clock-next to h =
       let facts = accepted-clock exactView to (exact-first (Clock to) h) in
       record {
-        k′ = k;
-        n′ = n;
-        m′ = m;
-        g′ = g;
-        clock′ = to;
-        es′ = es;
-        good = clocked-good k n m g clock es good to (facts .later) (facts .early);
-        book = ap (λ o. o .left) (book-accepted (Clock to) h) ∙ ap (λ (z : Shape). clocked z to ws) (shape-is k n m g clock es good)
-            ∙ clocked-words k n m g clock es good to (facts .later);
+        later = ledgerOf s to es;
+        good = clocked-good l good to (facts .later) (facts .early);
+        book = ap (λ o. o .left) (book-accepted (Clock to) h) ∙ ap (λ (z : Shape). clocked z to ws) (words-shape l good)
+            ∙ clocked-words l good to (facts .later);
         exact = ap (λ o. o .left) (exact-accepted (Clock to) h);
         span = λ _. (refl, facts .later);
       }
 
-  delivery-next : (grade stamp volume : ℕ) → first (Delivery grade stamp volume) ≡ 0 → Next k n m g clock es (Delivery grade stamp volume)
+  delivery-next : (grade stamp volume : ℕ) → first (Delivery grade stamp volume) ≡ 0 → Next l (Delivery grade stamp volume)
   unfolding ledgerView
   delivery-next grade stamp volume h =
       let call : Call = Delivery grade stamp volume in
       let facts = accepted-delivery exactView grade stamp volume (exact-first call h) in
       let e : Entry = record { grade = grade; stamp = stamp; volume = volume } in
       record {
-        k′ = k;
-        n′ = n;
-        m′ = m;
-        g′ = g;
-        clock′ = clock;
-        es′ = e ∷ es;
-        good = delivered-good k n m g clock es good e (facts .inside) (facts .low) (facts .high) (facts .room);
-        book = ap (λ o. o .left) (book-accepted call h) ∙ ap (λ (z : Shape). delivered z grade stamp volume ws) (shape-is k n m g clock es good)
-            ∙ delivered-words k n m g clock es good e (facts .inside) (facts .low) (facts .high);
+        later = ledgerOf s clock (e ∷ es);
+        good = delivered-good l good e (facts .inside) (facts .low) (facts .high) (facts .room);
+        book = ap (λ o. o .left) (book-accepted call h) ∙ ap (λ (z : Shape). delivered z grade stamp volume ws) (words-shape l good)
+            ∙ delivered-words l good e (facts .inside) (facts .low) (facts .high);
         exact = ap (λ o. o .left) (exact-accepted call h);
         span = λ _. (refl, le-refl clock);
       }
 
-  accepted-next : (call : Call) → first call ≡ 0 → Next k n m g clock es call
+  accepted-next : (call : Call) → first call ≡ 0 → Next l call
   accepted-next (Make k′ n′ m′ g′) h = make-next k′ n′ m′ g′ h
   accepted-next (Clock to) h = clock-next to h
   accepted-next (Delivery grade stamp volume) h = delivery-next grade stamp volume h
@@ -168,7 +140,7 @@ module _ (k n m g clock : ℕ) (es : List Entry) (good : Good k n m g clock es) 
       let call : Call = Query grade window in
       same-next call (ap (λ o. o .left) (book-accepted call h)) (ap (λ o. o .left) (exact-accepted call h))
 
-  pub next : (call : Call) → Next k n m g clock es call
+  pub next : (call : Call) → Next l call
   next call = ⊎-elim (accepted-next call) (λ h. same-next call (book-refused call h) (exact-refused call h)) (eq-or-ne (first call) 0)
 
   -- ---- one turn
@@ -176,19 +148,25 @@ module _ (k n m g clock : ℕ) (es : List Entry) (good : Good k n m g clock es) 
   abbrev turn : Call → Turn
   turn call = record { call = call; ledger = l; book = perform ws call .reply; exact = enter (length ws) l call .reply }
 
-  answer-is : (grade window : ℕ) → grade < g
-      → answer (shapeOf ws) (clockOf ws) (opening (clockOf ws) window) (blockAt ws grade) ≡ answer s clock (opening clock window) (blockFor s clock es grade)
-  unfolding wordsOf
-  answer-is grade window h = ap (answer s clock (opening clock window)) (block-is k n m g clock es good grade h)
+  answer-is : (grade window : ℕ) → grade < s .g
+      → answer (shapeOf ws) (clockOf ws) (opening (clockOf ws) window) (blockAt ws grade) ≡ answer s clock (opening clock window) (blockFor s clock es (ofGrade grade))
+  answer-is grade window h = rw (words-clock l good) (ap₂ (λ (z : Shape). answer z clock (opening clock window)) (words-shape l good) (block-is l good grade h))
 
-  query-bound : (grade window : ℕ) → Bound (turn (Query grade window))
+  -- if a relation holds of the two sums, it holds of the replies to an answered question
+  query-relates : (grade window : ℕ) (R : ℕ → ℕ → Type 0) → turn (Query grade window) .book .number ≡ 0
+      → (grade < s .g → window ≤ 2 ^ s .k
+      → R (answer s clock (opening clock window) (blockFor s clock es (ofGrade grade))) (volumeOf (ofWindow clock (ofGrade grade) window) es))
+      → R (getD (turn (Query grade window) .book .values) 0 0) (getD (turn (Query grade window) .exact .values) 0 0)
   unfolding ledgerView
-  query-bound grade window number room =
+  query-relates grade window R number held =
       let call : Call = Query grade window in
       let h : first call ≡ 0 = sym (perform-number ws call) ∙ number in
       let facts = accepted-query exactView grade window (exact-first call h) in
-      rw (book-accepted call h, exact-accepted call h, answer-is grade window (facts .inside))
-      (answer-admits k n m g clock es good room grade window (facts .short))
+      rw (book-accepted call h, exact-accepted call h, answer-is grade window (facts .inside)) (held (facts .inside) (facts .short))
+
+  query-bound : (grade window : ℕ) → Bound (turn (Query grade window))
+  query-bound grade window number room =
+      query-relates grade window (Admits (s .n) (s .k)) number (λ _. answer-admits l good (ofGrade grade) (good .few grade) room window)
 
   turn-bound : (call : Call) → Bound (turn call)
   turn-bound (Make k′ n′ m′ g′) = tt
@@ -202,74 +180,68 @@ module _ (k n m g clock : ℕ) (es : List Entry) (good : Good k n m g clock es) 
       let call : Call = Delivery grade stamp volume in
       late-delivery exactView grade stamp volume (sym (same-first call) ∙ sym (perform-number ws call) ∙ number)
 
-  -- ---- what is late stays so through the span
+  -- ---- what is late stays late through the span
 
-  module _ (call : Call) (c : Next k n m g clock es call) (stamp : ℕ) (h : stamp + 2 ^ k < clock) where
-    late-next : ByCall (perform ws call .reply .number ≡ 0 → ⊥) (Unit {0}) (λ _. Unit {0}) (λ _. Unit {0}) call → stamp + 2 ^ c .k′ < c .clock′
+  module _ (call : Call) (c : Next l call) (stamp : ℕ) (h : stamp + 2 ^ s .k < clock) where
+    late-next : ByCall (perform ws call .reply .number ≡ 0 → ⊥) (Unit {0}) (λ _. Unit {0}) (λ _ _. Unit {0}) call → stamp + 2 ^ c .later .shape .k < c .later .clock
     late-next within =
         let facts = c .span within in
-        let power : 2 ^ c .k′ ≡ 2 ^ k = ap (λ (z : ℕ). 2 ^ z) (facts .0) in
+        let power : 2 ^ c .later .shape .k ≡ 2 ^ s .k = ap (λ (z : ℕ). 2 ^ z) (facts .0) in
         omega (arith, facts .1)
 
-  span-step : (call : Call) (c : Next k n m g clock es call) (ts : List Turn) (stamp : ℕ) → stamp + 2 ^ k < clock
-      → (stamp + 2 ^ c .k′ < c .clock′ → Span (Outside stamp) ts) → Span (Outside stamp) (turn call ∷ ts)
+  span-step : (call : Call) (c : Next l call) (ts : List Turn) (stamp : ℕ) → stamp + 2 ^ s .k < clock
+      → (stamp + 2 ^ c .later .shape .k < c .later .clock → Span (Outside stamp) ts) → Span (Outside stamp) (turn call ∷ ts)
   span-step (Make k′ n′ m′ g′) c ts stamp h rest = λ refused. (tt, rest (late-next (Make k′ n′ m′ g′) c stamp h refused))
   span-step (Clock to) c ts stamp h rest = (tt, rest (late-next (Clock to) c stamp h tt))
   span-step (Delivery grade other volume) c ts stamp h rest = (tt, rest (late-next (Delivery grade other volume) c stamp h tt))
   span-step (Query grade window) c ts stamp h rest = (
-    λ w. late-outside s clock clock window stamp (lt-ltb (stamp + 2 ^ k) clock h) (le-refl clock) w,
+    λ w. late-outside s clock clock window stamp (lt-ltb (stamp + 2 ^ s .k) clock h) (le-refl clock) w,
     rest (late-next (Query grade window) c stamp h tt),
   )
 
-  missed-step : (call : Call) (c : Next k n m g clock es call) (ts : List Turn)
-      → ((stamp : ℕ) → stamp + 2 ^ c .k′ < c .clock′ → Span (Outside stamp) ts)
-      → ByCall (Unit {0}) (Unit {0}) (λ stamp. turn call .book .number ≡ 9 → Span (Outside stamp) ts) (λ _. Unit {0}) call
+  missed-step : (call : Call) (c : Next l call) (ts : List Turn)
+      → ((stamp : ℕ) → stamp + 2 ^ c .later .shape .k < c .later .clock → Span (Outside stamp) ts)
+      → ByCall (Unit {0}) (Unit {0}) (λ stamp. turn call .book .number ≡ 9 → Span (Outside stamp) ts) (λ _ _. Unit {0}) call
   missed-step (Make k′ n′ m′ g′) c ts rest = tt
   missed-step (Clock to) c ts rest = tt
   missed-step (Delivery grade stamp volume) c ts rest = λ number.
-      let h : stamp + 2 ^ k < clock = ltb-true (stamp + 2 ^ k) clock (turn-late grade stamp volume number) in
+      let h : stamp + 2 ^ s .k < clock = ltb-true (stamp + 2 ^ s .k) clock (turn-late grade stamp volume number) in
       rest stamp (late-next (Delivery grade stamp volume) c stamp h tt)
   missed-step (Query grade window) c ts rest = tt
 
 -- ---- the whole list
 
 -- a run from the words of a ledger
-abbrev grown : (k n m g clock : ℕ) → List Entry → List Call → List Turn
-grown k n m g clock es calls = run (wordsOf (shaped k n m g) clock es) (ledgerOf (shaped k n m g) clock es) calls
+abbrev grown : Ledger → List Call → List Turn
+grown l calls = run (wordsOf l) l calls
 
-abbrev after : {k n m g clock : ℕ} {es : List Entry} {call : Call} → Next k n m g clock es call → List Call → List Turn
-after c calls = grown (c .k′) (c .n′) (c .m′) (c .g′) (c .clock′) (c .es′) calls
-
--- a stamp that was late lies outside every window of the rest of the span
-outside : (calls : List Call) (k n m g clock : ℕ) (es : List Entry) → Good k n m g clock es → (stamp : ℕ) → stamp + 2 ^ k < clock
-    → Span (Outside stamp) (grown k n m g clock es calls)
+-- a late stamp lies outside every window in the rest of the span
+outside : (calls : List Call) (l : Ledger) → Good l → (stamp : ℕ) → stamp + 2 ^ l .shape .k < l .clock → Span (Outside stamp) (grown l calls)
 unfolding run
-outside [] k n m g clock es good stamp h = tt
-outside (call ∷ calls) k n m g clock es good stamp h =
-    let c = next k n m g clock es good call in
-    rw (c .book, c .exact)
-    (span-step k n m g clock es good call c (after c calls) stamp h (outside calls (c .k′) (c .n′) (c .m′) (c .g′) (c .clock′) (c .es′) (c .good) stamp))
+outside [] l good stamp h = tt
+outside (call ∷ calls) l good stamp h =
+    let c = next l good call in
+    rw (c .book, c .exact) (span-step l good call c (grown (c .later) calls) stamp h (outside calls (c .later) (c .good) stamp))
 
-kept : (calls : List Call) (k n m g clock : ℕ) (es : List Entry) → Good k n m g clock es
-    → Kept (grown k n m g clock es calls)
+kept : (calls : List Call) (l : Ledger) → Good l → Kept (grown l calls)
 unfolding run
-kept [] k n m g clock es good = record { same = tt; bound = tt; missed = tt }
-kept (call ∷ calls) k n m g clock es good =
-    let c = next k n m g clock es good call in
-    let rest = kept calls (c .k′) (c .n′) (c .m′) (c .g′) (c .clock′) (c .es′) (c .good) in
-    let later = outside calls (c .k′) (c .n′) (c .m′) (c .g′) (c .clock′) (c .es′) (c .good) in
+kept [] l good = record { same = tt; bound = tt; missed = tt }
+kept (call ∷ calls) l good =
+    let c = next l good call in
+    let rest = kept calls (c .later) (c .good) in
     rw (c .book, c .exact) (record {
-      same = (same-number k n m g clock es good call, rest .same);
-      bound = (turn-bound k n m g clock es good call, rest .bound);
-      missed = (missed-step k n m g clock es good call c (after c calls) later, rest .missed);
+      same = (same-number l good call, rest .same);
+      bound = (turn-bound l good call, rest .bound);
+      missed = (missed-step l good call c (grown (c .later) calls) (outside calls (c .later) (c .good)), rest .missed);
     })
 
--- demand 3, for every list of calls from the words that an accepted make left on any words
+-- the claim, for every list of calls from the words that an accepted make left on any words
 pub demand-3 : Claim
 unfolding Claim perform
 demand-3 before k n m g number calls =
     let call : Call = Make k n m g in
+    let l : Ledger = ledgerOf (shaped k n m g) 0 [] in
     let h : firstOf (refusals (bookView before) call) ≡ 0 = sym (perform-number before call) ∙ number in
-    let words : perform before call .left ≡ wordsOf (shaped k n m g) 0 [] =
+    let words : perform before call .left ≡ wordsOf l =
     ap (λ o. o .left) (settle-accepted (refusals (bookView before) call) before (accept before call) h) ∙ made-words (shaped k n m g) in
-    rw words (kept calls k n m g 0 [] (made-good k n m g (accepted-make (bookView before) k n m g h .0)))
+    rw words (kept calls l (made-good k n m g (accepted-make (bookView before) k n m g h .0)))

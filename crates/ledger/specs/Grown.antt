@@ -13,7 +13,7 @@ use Rattle.model.specs.Block.{Half, upFrom, offsetOf, emptyHalf, deliverHalf}
 use Rattle.model.specs.Ledger.{Entry, volumeOf}
 use Rattle.model.specs.Claim.{Each}
 use Rattle.ledger.specs.Time.{offset-lt}
-use Rattle.laws.specs.BlockKept.{insertAll-upFrom}
+use Rattle.laws.specs.BlockSound.{insertAll-upFrom}
 use Rattle.theory.specs.Fed.{Event, fed, counted, Inside}
 
 -- the entries that satisfy a test, as events of an interval
@@ -21,7 +21,7 @@ abbrev pub events : Shape → (Entry → Bool) → List Entry → List Event
 events s p [] = []
 events s p (e ∷ es) = cond (p e) (record { at = offsetOf s (e .stamp); vol = e .volume } ∷ events s p es) (events s p es)
 
--- offsets lie within the interval
+-- their offsets lie within the interval
 pub events-inside : (s : Shape) (p : Entry → Bool) (es : List Entry) → Inside (s .k) (events s p es)
 events-inside s p [] = tt
 events-inside s p (e ∷ es) = go (p e) (events-inside s p es)
@@ -30,7 +30,7 @@ events-inside s p (e ∷ es) = go (p e) (events-inside s p es)
     go true h = (offset-lt s (e .stamp), h)
     go false h = h
 
--- the half that has been fed these events
+-- a half that was fed these events
 unfoldable pub halfFed : Shape → ℕ → List Event → Half
 halfFed s total vs = record { total = total; levels = upFrom (λ i. fed (s .k) (s .n) i vs) 0 (suc (s .last)) }
 
@@ -41,16 +41,9 @@ halfFor s p es = halfFed s (volumeOf p es) (events s p es)
 
 -- two tests that agree on every entry
 module _ (s : Shape) (p q : Entry → Bool) where
-  pub events-cong : (es : List Entry) → Each (λ e. p e ≡ q e) es → events s p es ≡ events s q es
-  events-cong [] h = refl
-  events-cong (e ∷ es) h = rw (h .0, events-cong es (h .1))
-
   pub volumeOf-cong : (es : List Entry) → Each (λ e. p e ≡ q e) es → volumeOf p es ≡ volumeOf q es
   volumeOf-cong [] h = refl
   volumeOf-cong (e ∷ es) h = rw (h .0, volumeOf-cong es (h .1))
-
-  pub halfFor-cong : (es : List Entry) → Each (λ e. p e ≡ q e) es → halfFor s p es ≡ halfFor s q es
-  halfFor-cong es h = rw (events-cong es h, volumeOf-cong es h)
 
 -- no entry satisfies the test
 module _ (s : Shape) (p : Entry → Bool) where
@@ -83,7 +76,7 @@ module _ (s : Shape) (p : Entry → Bool) (e : Entry) (es : List Entry) where
   pub halfFor-more : p e ≡ true → halfFor s p (e ∷ es) ≡ deliverHalf s (offsetOf s (e .stamp)) (e .volume) (halfFor s p es)
   halfFor-more h = rw h (sym (deliverHalf-fed s (volumeOf p es) (offsetOf s (e .stamp)) (e .volume) (events s p es)))
 
-  -- it does not
+  -- it does not satisfy the test: the half stays
   pub halfFor-other : p e ≡ false → halfFor s p (e ∷ es) ≡ halfFor s p es
   halfFor-other h = rw (h, zero-add (volumeOf p es))
 

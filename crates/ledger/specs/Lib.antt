@@ -7,4 +7,5 @@ pub mod Agree
 pub mod Next
 pub mod Window
 pub mod Demand
+pub mod Excluded
 pub mod Apart

@@ -8,18 +8,18 @@ use lib.Dec.{eqb}
 use borrow.Author.Tests.{eq-eqb, ne-eqb}
 use Rattle.model.specs.Block.{empties}
 use Rattle.model.specs.BlockLaws.{empties-same, empties-next, empties-other, empties-skipped}
-use Rattle.laws.specs.Cases.{lt-or-ge, eq-or-ne, by-eq}
+use Rattle.laws.specs.Cond.{lt-or-ge, eq-or-ne, by-eq}
 
--- the interval that a half serves while the clock is in interval `now`: that one, or the one before it. In interval 0 the odd half
--- has not served any; interval 1, which has no entry yet, stands for it
+-- the interval that a half serves while the clock is in interval `now`: that one or the one before. In interval 0 the odd half has served
+-- none; interval 1, which has no entry yet, stands in for it
 unfoldable pub served : ℕ → ℕ → ℕ
 served now parity = cond (eqb (now % 2) parity) now (cond (eqb now 0) 1 (now - 1))
 
-pub served-own : (now parity : ℕ) → now % 2 ≡ parity → served now parity ≡ now
+served-own : (now parity : ℕ) → now % 2 ≡ parity → served now parity ≡ now
 unfolding served
 served-own now parity h = rw (eq-eqb (now % 2) parity h)
 
-pub served-before : (now parity : ℕ) → (now % 2 ≡ parity → ⊥) → 0 < now → served now parity ≡ now - 1
+served-before : (now parity : ℕ) → (now % 2 ≡ parity → ⊥) → 0 < now → served now parity ≡ now - 1
 unfolding served
 served-before now parity h pos = rw (ne-eqb (now % 2) parity h, ne-eqb now 0 (λ e. omega arith))
 
@@ -43,7 +43,7 @@ unfolding served
 served-low now parity =
     by-eq (now % 2) parity (λ z. now ≤ z + 1) (λ e. omega arith) (λ e. by-eq now 0 (λ z. now ≤ z + 1) (λ q. omega arith) (λ q. omega arith))
 
--- a clock that goes from one interval to another empties the halves that come to serve a new one, and no other
+-- a clock that goes on to another interval empties exactly the halves that come to serve a new interval
 pub served-clock : (from to parity : ℕ) → from ≤ to → parity < 2
     → ((empties from to parity ≡ true) × (from < served to parity)) ⊎ ((empties from to parity ≡ false) × (served to parity ≡ served from parity))
 served-clock from to parity up two =

@@ -1,4 +1,4 @@
--- Stamps by their interval and offset. Assumes nothing.
+-- Stamps, by interval and offset. Assumes nothing.
 use mathlib.Core.Bool.{true, false}
 use mathlib.Core.Path.{_≡_, ap}
 use mathlib.Core.Logic.{⊎-elim}
@@ -10,7 +10,7 @@ use lib.Pow
 use borrow.Author.Tests.{lt-leb, ltb-true}
 use Rattle.shape.specs.declared.Shape.{Shape}
 use Rattle.model.specs.Block.{interval, offsetOf, opening, covers, late}
-use Rattle.laws.specs.Cases.{lt-or-ge}
+use Rattle.laws.specs.Cond.{lt-or-ge}
 
 module _ (s : Shape) where
   -- a tick is its interval's start and its offset
@@ -23,11 +23,11 @@ module _ (s : Shape) where
   pub interval-mono : {t u : ℕ} → t ≤ u → interval s t ≤ interval s u
   interval-mono h = shr-mono (s .k) h
 
-  -- a later interval holds later ticks
+  -- ticks of a later interval are later
   pub interval-lt : (t u : ℕ) → interval s t < interval s u → t < u
   interval-lt t u h = ⊎-elim (λ (l : t < u). l) (λ (g : u ≤ t). absurd (omega (arith, interval-mono g))) (lt-or-ge t u)
 
-  -- two ticks at most an interval's length apart lie in the same interval or in two that follow each other
+  -- two ticks at most 2^k apart lie in the same interval or in neighbouring ones
   pub interval-near : (t u : ℕ) → u ≤ t + 2 ^ s .k → interval s u ≤ interval s t + 1
   interval-near t u h =
       ⊎-elim
@@ -37,7 +37,7 @@ module _ (s : Shape) where
       (λ (g : interval s u ≤ interval s t + 1). g)
       (lt-or-ge (interval s t + 1) (interval s u))
 
-  -- within one interval ticks stand as their offsets do
+  -- within an interval, ticks are ordered as their offsets are
   module _ (t u : ℕ) (same : interval s t ≡ interval s u) where
     start : interval s t * 2 ^ s .k ≡ interval s u * 2 ^ s .k
     start = ap (λ (j : ℕ). j * 2 ^ s .k) same
@@ -48,7 +48,7 @@ module _ (s : Shape) where
     pub tick-le : offsetOf s t ≤ offsetOf s u → t ≤ u
     tick-le h = omega (arith, start, tick-split t, tick-split u)
 
--- what is late at a clock lies before every window of at most 2^k from then on
+-- what is late at a clock lies outside every window of at most 2^k from then on
 pub late-outside : (s : Shape) (clock later window stamp : ℕ) → late s clock stamp ≡ true → clock ≤ later → window ≤ 2 ^ s .k
     → covers later window stamp ≡ false
 late-outside s clock later window stamp h up w =

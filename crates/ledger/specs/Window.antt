@@ -1,20 +1,19 @@
--- What a window covers, by interval and offset; and the sum of a question beside the ledger's. Rests on the relative bound of fed levels.
+-- What a window covers, by interval and offset; and the sum of a question compared with the ledger's. Rests on the relative bound of fed
+-- levels.
 use mathlib.Core.Bool.{Bool, true, false, cond, _&&_}
 use mathlib.Core.Path.{_≡_, refl, sym, _∙_}
 use mathlib.Core.Logic.{⊎-elim}
 use mathlib.Core.List.{List, [], _∷_}
 use Prim.Native.Nat.{ℕ, _+_, _*_, _^_, _≤_, _<_}
-use native.Mathlib.Nat.{le-refl, mul-le-mul-right}
+use native.Mathlib.Nat.{le-refl}
 use native.Mathlib.Omega.{arith}
-use lib.Dec.{leb, eqb}
-use lib.Pow.{pow-pos}
+use lib.Dec.{leb}
 use borrow.Author.Tests.{le-leb, lt-leb, eq-eqb, ne-eqb}
 use Rattle.shape.specs.declared.Shape.{Shape}
-use Rattle.shape.specs.Limits.{shaped}
 use Rattle.model.specs.Block.{interval, offsetOf, opening, answer, sumFrom, serving}
-use Rattle.model.specs.Ledger.{Entry, volumeOf, ofInterval, ofWindow}
+use Rattle.model.specs.Ledger.{Entry, Ledger, volumeOf, ofInterval, ofWindow}
 use Rattle.model.specs.Claim.{Each, Admits}
-use Rattle.laws.specs.Cases.{lt-or-ge, eq-or-ne}
+use Rattle.laws.specs.Cond.{lt-or-ge, eq-or-ne}
 use Rattle.theory.specs.Fed.{counted}
 use Rattle.theory.specs.Relative.{relative, admits-more}
 use Rattle.ledger.specs.Time.{offset-lt, interval-mono, interval-lt, interval-near, offset-le, tick-le}
@@ -22,7 +21,7 @@ use Rattle.ledger.specs.Grown.{events, events-inside, halfFed, halfFor, 
 use Rattle.ledger.specs.Book.{blockFor, halfOf-served}
 use Rattle.ledger.specs.State.{Good}
 
--- two tests with the same meaning
+-- two comparisons that hold in the same cases
 leb-same : (x y u v : ℕ) → (x ≤ y → u ≤ v) → (u ≤ v → x ≤ y) → leb x y ≡ leb u v
 leb-same x y u v f g =
     ⊎-elim
@@ -31,30 +30,30 @@ leb-same x y u v f g =
     (lt-or-ge y x)
 
 module _ (s : Shape) (start stamp : ℕ) where
-  -- a stamp of the interval in which the window opens is covered by its offset
-  pub opens-within : interval s stamp ≡ interval s start → leb start stamp ≡ leb (offsetOf s start) (offsetOf s stamp)
+  -- in the interval in which the window opens, a stamp is covered by its offset
+  opens-within : interval s stamp ≡ interval s start → leb start stamp ≡ leb (offsetOf s start) (offsetOf s stamp)
   opens-within e = leb-same start stamp (offsetOf s start) (offsetOf s stamp) (offset-le s start stamp (sym e)) (tick-le s start stamp (sym e))
 
-  -- a stamp of a later interval is covered, one of an earlier interval is not
-  pub opens-before : interval s start < interval s stamp → leb start stamp ≡ true
+  -- a stamp of a later interval is covered, and one of an earlier interval is not
+  opens-before : interval s start < interval s stamp → leb start stamp ≡ true
   opens-before h = le-leb start stamp (omega (arith, interval-lt s start stamp h))
 
-  pub opens-after : interval s stamp < interval s start → leb start stamp ≡ false
+  opens-after : interval s stamp < interval s start → leb start stamp ≡ false
   opens-after h = lt-leb start stamp (interval-lt s stamp start h)
 
 -- ---- the ledger's sum by interval and offset
 
--- the entries of a grade and an interval from an offset on
-abbrev pub fromOffset : Shape → ℕ → ℕ → ℕ → Entry → Bool
-fromOffset s grade j a e = ofInterval s grade j e && leb a (offsetOf s (e .stamp))
+-- an entry that satisfies a test, in interval j and from offset a on
+abbrev fromOffset : Shape → (Entry → Bool) → ℕ → ℕ → Entry → Bool
+fromOffset s p j a e = ofInterval s p j e && leb a (offsetOf s (e .stamp))
 
--- two lists of tests added up
+-- if each entry counts for p what it counts for q and r together, so do the sums
 volumeOf-sum : (p q r : Entry → Bool) (es : List Entry) → Each (λ e. cond (p e) (e .volume) 0 ≡ cond (q e) (e .volume) 0 + cond (r e) (e .volume) 0) es
     → volumeOf p es ≡ volumeOf q es + volumeOf r es
 volumeOf-sum p q r [] h = refl
 volumeOf-sum p q r (e ∷ es) h = omega (arith, h .0, volumeOf-sum p q r es (h .1))
 
-module _ (s : Shape) (clock grade window : ℕ) where
+module _ (s : Shape) (clock : ℕ) (p : Entry → Bool) (window : ℕ) where
   abbrev start : ℕ
   start = opening clock window
 
@@ -66,15 +65,15 @@ module _ (s : Shape) (clock grade window : ℕ) where
 
   -- a window that opens in the current interval
   module _ (same : interval s start ≡ current) where
-    own : (e : Entry) → e .stamp ≤ clock → ofWindow clock grade window e ≡ fromOffset s grade current a e
+    own : (e : Entry) → e .stamp ≤ clock → ofWindow clock p window e ≡ fromOffset s p current a e
     own e past =
         ⊎-elim
         (λ (here : interval s (e .stamp) ≡ current).
         rw (le-leb (e .stamp) clock past, opens-within s start (e .stamp) (here ∙ sym same), eq-eqb (interval s (e .stamp)) current here)
-        (kept (eqb (e .grade) grade) (leb a (offsetOf s (e .stamp)))))
+        (kept (p e) (leb a (offsetOf s (e .stamp)))))
         (λ (there : interval s (e .stamp) ≡ current → ⊥).
         rw (opens-after s start (e .stamp) (omega (arith, interval-mono s past, there)), ne-eqb (interval s (e .stamp)) current there)
-        (gone (eqb (e .grade) grade) (leb a (offsetOf s (e .stamp)))))
+        (gone (p e) (leb a (offsetOf s (e .stamp)))))
         (eq-or-ne (interval s (e .stamp)) current)
       where
         kept : (g t : Bool) → (g && (t && true)) ≡ ((g && true) && t)
@@ -86,11 +85,11 @@ module _ (s : Shape) (clock grade window : ℕ) where
         gone true t = refl
         gone false t = refl
 
-    pub window-own : (es : List Entry) → Each (λ e. e .stamp ≤ clock) es
-        → volumeOf (ofWindow clock grade window) es ≡ volumeOf (fromOffset s grade current a) es
-    window-own es past = volumeOf-cong s (ofWindow clock grade window) (fromOffset s grade current a) es (each es past)
+    window-own : (es : List Entry) → Each (λ e. e .stamp ≤ clock) es
+        → volumeOf (ofWindow clock p window) es ≡ volumeOf (fromOffset s p current a) es
+    window-own es past = volumeOf-cong s (ofWindow clock p window) (fromOffset s p current a) es (each es past)
       where
-        each : (es : List Entry) → Each (λ e. e .stamp ≤ clock) es → Each (λ e. ofWindow clock grade window e ≡ fromOffset s grade current a e) es
+        each : (es : List Entry) → Each (λ e. e .stamp ≤ clock) es → Each (λ e. ofWindow clock p window e ≡ fromOffset s p current a e) es
         each [] h = tt
         each (e ∷ es) h = (own e (h .0), each es (h .1))
 
@@ -98,13 +97,13 @@ module _ (s : Shape) (clock grade window : ℕ) where
   module _ (before : interval s start + 1 ≡ current) where
     abbrev Parts : Entry → Type 0
     Parts e =
-        cond (ofWindow clock grade window e) (e .volume) 0
-        ≡ cond (fromOffset s grade (interval s start) a e) (e .volume) 0 + cond (ofInterval s grade current e) (e .volume) 0
+        cond (ofWindow clock p window e) (e .volume) 0
+        ≡ cond (fromOffset s p (interval s start) a e) (e .volume) 0 + cond (ofInterval s p current e) (e .volume) 0
 
     parts : (e : Entry) → e .stamp ≤ clock → Parts e
     parts e past =
         let i : ℕ = interval s (e .stamp) in
-        let g : Bool = eqb (e .grade) grade in
+        let g : Bool = p e in
         let t : Bool = leb a (offsetOf s (e .stamp)) in
         rw (le-leb (e .stamp) clock past)
         (⊎-elim
@@ -136,45 +135,63 @@ module _ (s : Shape) (clock grade window : ℕ) where
         outside true t = omega arith
         outside false t = omega arith
 
-    pub window-before : (es : List Entry) → Each (λ e. e .stamp ≤ clock) es
-        → volumeOf (ofWindow clock grade window) es ≡ volumeOf (fromOffset s grade (interval s start) a) es + volumeOf (ofInterval s grade current) es
+    window-before : (es : List Entry) → Each (λ e. e .stamp ≤ clock) es
+        → volumeOf (ofWindow clock p window) es ≡ volumeOf (fromOffset s p (interval s start) a) es + volumeOf (ofInterval s p current) es
     window-before es past =
-        volumeOf-sum (ofWindow clock grade window) (fromOffset s grade (interval s start) a) (ofInterval s grade current) es (each es past)
+        volumeOf-sum (ofWindow clock p window) (fromOffset s p (interval s start) a) (ofInterval s p current) es (each es past)
       where
         each : (es : List Entry) → Each (λ e. e .stamp ≤ clock) es → Each Parts es
         each [] h = tt
         each (e ∷ es) h = (parts e (h .0), each es (h .1))
 
--- ---- the answer beside the ledger's sum
+-- ---- the answer compared with the ledger's sum
 
-module _ (k n m g clock : ℕ) (es : List Entry) (good : Good k n m g clock es) (room : k + 1 < n) where
-  -- the sum of the half for interval j from an offset on
-  half-admits : (grade j a : ℕ) → a < 2 ^ k
-      → Admits n k (sumFrom a (serving a (halfFor (shaped k n m g) (ofInterval (shaped k n m g) grade j) es .levels) .buckets))
-      (volumeOf (fromOffset (shaped k n m g) grade j a) es)
-  unfolding halfFed
-  half-admits grade j a h =
-      let s : Shape = shaped k n m g in
-      let p : Entry → Bool = ofInterval s grade j in
-      let twice : 2 * 2 ^ m ≤ n * 2 ^ m = mul-le-mul-right (2 ^ m) (good .limits .low-n) in
-      let small : counted (events s p es) 0 < n * 2 ^ m = omega (arith, counted-all s p es, good .few grade j, pow-pos m) in
-      rw (← counted-events s p a es) (relative k n m (events s p es) (events-inside s p es) room small a h)
+module _ (l : Ledger) (good : Good l) where
+  abbrev s : Shape
+  s = l .shape
 
-  pub answer-admits : (grade window : ℕ) → window ≤ 2 ^ k
-      → Admits n k (answer (shaped k n m g) clock (opening clock window) (blockFor (shaped k n m g) clock es grade)) (volumeOf (ofWindow clock grade window) es)
+  abbrev clock : ℕ
+  clock = l .clock
+
+  abbrev es : List Entry
+  es = l .entries
+
+  -- a relation between the sum from offset a on of the half for interval j, and the ledger's sum there
+  abbrev HalfRelates : (ℕ → ℕ → Type 0) → (Entry → Bool) → ℕ → ℕ → Type 0
+  HalfRelates R p j a = R (sumFrom a (serving a (halfFor s (ofInterval s p j) es .levels) .buckets)) (volumeOf (fromOffset s p j a) es)
+
+  -- if a relation survives adding the same volume on both sides and holds of the half in which the window opens, it holds of the window's
+  -- sums
+  sum-relates : (R : ℕ → ℕ → Type 0) → ((x y more : ℕ) → R x y → R (x + more) (y + more)) → (p : Entry → Bool) (window : ℕ) → window ≤ 2 ^ s .k
+      → HalfRelates R p (interval s (opening clock window)) (offsetOf s (opening clock window))
+      → R (answer s clock (opening clock window) (blockFor s clock es p)) (volumeOf (ofWindow clock p window) es)
   unfolding answer halfFed
-  answer-admits grade window w =
-      let s : Shape = shaped k n m g in
+  sum-relates R more p window w half =
       let start : ℕ = opening clock window in
       let from : ℕ = interval s start in
       let current : ℕ = interval s clock in
       let low : from ≤ current = interval-mono s (omega arith) in
       let high : current ≤ from + 1 = interval-near s start clock (omega arith) in
-      let half = half-admits grade from (offsetOf s start) (offset-lt s start) in
-      rw (halfOf-served s clock es grade from low high, halfOf-served s clock es grade current (le-refl current) (omega arith))
+      rw (halfOf-served s clock es p from low high, halfOf-served s clock es p current (le-refl current) (omega arith))
       (⊎-elim
-      (λ (same : from ≡ current). rw (eq-eqb from current same, window-own s clock grade window same es (good .past), ← same) half)
+      (λ (same : from ≡ current). rw (eq-eqb from current same, window-own s clock p window same es (good .past), ← same) half)
       (λ (other : from ≡ current → ⊥).
-      rw (ne-eqb from current other, window-before s clock grade window (omega (arith, other)) es (good .past))
-      (admits-more n k _ _ (volumeOf (ofInterval s grade current) es) half))
+      rw (ne-eqb from current other, window-before s clock p window (omega (arith, other)) es (good .past))
+      (more _ _ (volumeOf (ofInterval s p current) es) half))
       (eq-or-ne from current))
+
+  -- the bound, if no interval of these entries has more than 2^M
+  module _ (p : Entry → Bool) (few : (j : ℕ) → volumeOf (ofInterval s p j) es ≤ 2 ^ s .m) where
+    small : (j : ℕ) → counted (events s (ofInterval s p j) es) 0 < s .n * 2 ^ s .last
+    small j = omega (arith, counted-all s (ofInterval s p j) es, few j, good .reach)
+
+    pub answer-admits : s .k + 1 < s .n → (window : ℕ) → window ≤ 2 ^ s .k
+        → Admits (s .n) (s .k) (answer s clock (opening clock window) (blockFor s clock es p)) (volumeOf (ofWindow clock p window) es)
+    unfolding halfFed
+    answer-admits room window w =
+        let j : ℕ = interval s (opening clock window) in
+        let a : ℕ = offsetOf s (opening clock window) in
+        let q : Entry → Bool = ofInterval s p j in
+        sum-relates (Admits (s .n) (s .k)) (admits-more (s .n) (s .k)) p window w
+        (rw (← counted-events s q a es)
+        (relative (s .k) (s .n) (s .last) (events s q es) (events-inside s q es) room (small j) a (offset-lt s (opening clock window))))

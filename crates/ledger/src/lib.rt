@@ -1,1 +1,1 @@
-// The book as a function of the ledger, and demand 3 proved whole. No code: see specs/.
+// The book as a function of the ledger, and the proof of the claim (demand 3). It has no code; see specs/.

@@ -1,5 +1,4 @@
--- How many words of its buffer the bench program lends a line's call, and what the line does to the buffer, as document 01's 'The
--- bench program' has it. Assumes nothing.
+-- How many words of its buffer the bench program lends to a call, and what a line does to the buffer: SPECIFICATION 11.2. Assumes nothing.
 use mathlib.Core.Bool.{cond}
 use mathlib.Core.List.{List, _++_}
 use Prim.Native.Nat.{ℕ, min}
@@ -14,22 +13,22 @@ use Rattle.grammar.specs.declared.Parsed.{Parsed}
 use Rattle.grammar.specs.declared.Parsed.the-variants.{Read, Unread}
 use Rattle.text.specs.Text.{textOf, unreadText}
 
--- the length that a shape within its limits needs, at most the whole buffer; else all of it
+-- SPECIFICATION 11.2: the length that a shape within its limits needs, but at most the whole buffer; to any other make all of it
 abbrev pub lentToMake : ℕ → ℕ → ℕ → ℕ → ℕ → ℕ
 lentToMake all k n m g = cond (within k n m g) (min (bookWords (shaped k n m g)) all) all
 
--- another call gets as much as is lent
+-- SPECIFICATION 11.2: every other call is lent as much as is lent now
 abbrev pub lentTo : ℕ → ℕ → Call → ℕ
 lentTo all lent (Make k n m g) = lentToMake all k n m g
 lentTo all lent (Clock clock) = lent
 lentTo all lent (Delivery grade stamp volume) = lent
 lentTo all lent (Query grade window) = lent
 
--- after an accepted call as much stays lent as it was lent; a refused one changes nothing
+-- SPECIFICATION 11.2: what an accepted call was lent stays lent; a refused one changes nothing
 abbrev pub lentAfter : Reply → ℕ → ℕ → ℕ
 lentAfter reply before lent = cond (eqb (reply .number) 0) lent before
 
--- a call on the front of the buffer; the words behind stay
+-- SPECIFICATION 11.2: a call on the front of the buffer; the words behind stay
 unfoldable pub performOn : ℕ → List ℕ → Call → Outcome (List ℕ)
 performOn lent ws call = let done = perform (take lent ws) call in outcomeOf (done .reply) (done .left ++ drop lent ws)
 
@@ -38,13 +37,13 @@ pub record After : Type 0 where  -- after a line: the buffer, how much of it is 
   pub lent : ℕ
   pub text : List ℕ
 
-abbrev pub afterCall : List ℕ → ℕ → Call → After
+abbrev pub afterCall : List ℕ → ℕ → Call → After  -- SPECIFICATION 11.2 and 11.4: a line that is a call
 afterCall ws before call =
     let lent = lentTo (length ws) before call in
     let done = performOn lent ws call in
     record { words = done .left; lent = lentAfter (done .reply) before lent; text = textOf (done .reply) }
 
--- a line that is not read changes nothing
+-- SPECIFICATION 11.2 to 11.4: a line that is unread changes nothing
 unfoldable pub afterLine : List ℕ → ℕ → Parsed → After
 afterLine ws before (Read call) = afterCall ws before call
 afterLine ws before Unread = record { words = ws; lent = before; text = unreadText }

@@ -1,4 +1,4 @@
--- What a call is lent lies within the buffer, and so does what stays lent. Assumes nothing.
+-- What a call is lent is within the buffer, and so is what stays lent. Assumes nothing.
 use mathlib.Core.Bool.{Bool, true, false, cond}
 use mathlib.Core.Path.{_≡_}
 use Prim.Native.Nat.{ℕ, min, _≤_}
@@ -32,7 +32,7 @@ after-inside all reply before lent b l = go (eqb (reply .number) 0)
     go true = l
     go false = b
 
--- after a refused call as much is lent as before
+-- after a refused call as much is lent as before it
 pub refused-after : (why : Refusal) (before lent : ℕ) → lentAfter (replyOf (Refused why)) before lent ≡ before
 unfolding replyOf
 refused-after why before lent = rw (ne-eqb (numberOf why) 0 (numberOf-pos why))

@@ -1,4 +1,4 @@
--- The parts of a line's answer, put together. Assumes nothing.
+-- What the parts of the code give is what the line leaves. Assumes nothing.
 use mathlib.Core.List.{List}
 use mathlib.Core.Path.{_≡_}
 use Prim.Native.Nat.{ℕ}

@@ -1,4 +1,4 @@
-// What a line does to the bench program's buffer: how many words its call is lent, the call on them, and what is said.
+// What a line does to the bench program's buffer (SPECIFICATION 11.2): how many words its call is lent, the call on them, and the answer.
 use grammar::Parsed;
 use model::Answer;
 use model::Call;
@@ -12,13 +12,13 @@ ghost use Rattle.model.specs.Calls.{outcomeOf};
 ghost use Rattle.lent.specs.Lent.{lentToMake, lentTo, lentAfter, performOn, afterLine};
 ghost use Rattle.lent.specs.Said.{afterOf};
 
-// What is said to a line.
+// The answer to a line.
 pub enum Said {
     Answer(Answer),
     Unread,
 }
 
-// What is said to a line, and how many words are lent after it.
+// The answer to a line, and how many words are lent after it.
 pub struct Answered {
     pub said: Said,
     pub lent: usize,
@@ -66,7 +66,7 @@ fn perform_on(book: &mut [u32], lent: usize, call: Call) -> Answer
     summary::perform(&mut book[..lent], call)
 }
 
-// How many words are lent after a call that was lent so many: a refused one changes nothing.
+// How many words are lent after a call that was lent `lent`. A refused call changes nothing.
 fn lent_after(answer: Answer, before: usize, lent: usize) -> usize
     ensures { λ r. ⌜ r ≡ lentAfter (replyOf answer) before lent ⌝ }
 {
@@ -77,7 +77,7 @@ fn lent_after(answer: Answer, before: usize, lent: usize) -> usize
     }
 }
 
-// A whole line: its call is performed on the words that it is lent.
+// A whole line: performs its call on the words that it is lent.
 pub fn answer_line(book: &mut [u32], before: usize, parsed: Parsed) -> Answered
     requires { ⌜ before ≤ length (now book) ⌝ }
     ensures { λ r. ⌜ afterOf r (now (book .exit)) ≡ afterLine (now (book .entry)) before parsed ⌝ }

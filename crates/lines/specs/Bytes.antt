@@ -1,4 +1,4 @@
--- A line, one byte after the other: every line that is read so gives what the grammar says of it. Assumes nothing.
+-- A line that is read one byte after the other gives what the grammar says of it. Assumes nothing.
 use mathlib.Core.List.{List, [], _∷_, foldl}
 use mathlib.Core.Path.{_≡_, sym, _∙_}
 use Prim.Native.Nat.{ℕ}
@@ -13,11 +13,11 @@ use Rattle.lines.specs.declared.Line.{Line}
 unfoldable pub started : Line
 started = record { state = Start }
 
--- with one byte more
+-- a line with one more byte
 unfoldable pub stepped : Line → ℕ → Line
 stepped line byte = record { state = moved (line .state) byte }
 
--- where it ends
+-- a line that ends
 unfoldable pub finished : Line → Reply
 finished line = ended (line .state)
 
@@ -26,7 +26,7 @@ unfolding finished stepped
 read-on line [] = sym (at-end (line .state))
 read-on line (b ∷ bs) = read-on (stepped line b) bs ∙ sym (one-byte (line .state) b bs)
 
--- a line of any bytes and any length: started, stepped by each byte and finished, it is what the grammar says
+-- a line of any bytes and any length: started, stepped by each byte and finished, it gives what the grammar says
 pub read-line : (bytes : List ℕ) → finished (foldl stepped started bytes) ≡ grammar bytes
 unfolding started
 read-line bytes = read-on started bytes ∙ at-start bytes

@@ -1,4 +1,4 @@
-// One line of the bench program from bytes to a call, byte by byte.
+// One line of the bench program, from bytes to a call, byte by byte.
 use grammar::Parsed;
 use grammar::State;
 use reader::advance;
@@ -7,7 +7,7 @@ ghost use mathlib.Core.Path.{_≡_};
 ghost use Rattle.grammar.specs.Grammar.{grammar, readingOf};
 ghost use Rattle.lines.specs.Bytes.{started, stepped, finished};
 
-// A line of any length, as far as it is read.
+// A line of any length, as far as it has been read.
 pub struct Line {
     state: State,
 }
@@ -22,7 +22,7 @@ impl Line {
         }
     }
 
-    // The line with one byte more.
+    // The line with one more byte.
     pub fn step(self, byte: u8) -> Self
         ensures { λ r. ⌜ r ≡ stepped self byte ⌝ }
     {
@@ -32,7 +32,7 @@ impl Line {
         }
     }
 
-    // What the line asks for, if it ends here.
+    // What the line asks for if it ends here.
     pub fn finish(self) -> Parsed
         ensures { λ r. ⌜ readingOf r ≡ finished self ⌝ }
     {
@@ -47,7 +47,7 @@ impl Line {
     }
 }
 
-// What a whole line asks for, given without its newline.
+// What a whole line asks for. It is given without its newline.
 pub fn parse(bytes: &[u8]) -> Parsed
     ensures { λ r. ⌜ readingOf r ≡ grammar (now (bytes .entry)) ⌝ }
 {

@@ -1,4 +1,4 @@
--- Demand 3 as one statement about a whole list of calls. Its proof is not here. Assumes nothing.
+-- SPECIFICATION 9, the claim (the customer's demand 3): one statement about a whole list of calls, proved in `ledger`. Assumes nothing.
 use mathlib.Core.Bool.{false}
 use mathlib.Core.Path.{_≡_}
 use mathlib.Core.List.{List, [], _∷_}
@@ -11,57 +11,57 @@ use Rattle.model.specs.Block.{covers}
 use Rattle.model.specs.Calls.{perform}
 use Rattle.model.specs.Ledger.{Ledger, ledgerOf, enter}
 
-pub record Turn : Type 0 where  -- one call of a run: the ledger before it, what the book answers and what the ledger answers
+pub record Turn : Type 0 where  -- SPECIFICATION 9.1, one call of a run: the ledger before it, the book's reply and the ledger's
   pub call : Call
   pub ledger : Ledger
   pub book : Reply
   pub exact : Reply
 
-unfoldable pub run : List ℕ → Ledger → List Call → List Turn  -- a list of calls, each lent all of the words
+unfoldable pub run : List ℕ → Ledger → List Call → List Turn  -- SPECIFICATION 9.1: a list of calls, each lent all of the words
 run ws l [] = []
 run ws l (call ∷ calls) =
     let done = perform ws call in
     let noted = enter (length ws) l call in
     record { call = call; ledger = l; book = done .reply; exact = noted .reply } ∷ run (done .left) (noted .left) calls
 
-abbrev pub Each : {A : Type 0} → (A → Type 0) → List A → Type 0
+abbrev pub Each : {A : Type 0} → (A → Type 0) → List A → Type 0  -- P holds of each
 Each P [] = Unit {0}
 Each P (x ∷ xs) = P x × Each P xs
 
-abbrev pub ByCall : Type 0 → Type 0 → (ℕ → Type 0) → (ℕ → Type 0) → Call → Type 0  -- of a delivery by its stamp, of a question by its window
+abbrev pub ByCall : Type 0 → Type 0 → (ℕ → Type 0) → (ℕ → ℕ → Type 0) → Call → Type 0  -- what is said of each kind of call: of a delivery by its stamp, of a question by grade and window
 ByCall make clock delivery query (Make k n m g) = make
 ByCall make clock delivery query (Clock to) = clock
 ByCall make clock delivery query (Delivery grade stamp volume) = delivery stamp
-ByCall make clock delivery query (Query grade window) = query window
+ByCall make clock delivery query (Query grade window) = query grade window
 
-abbrev pub OfQuery : (ℕ → Type 0) → Call → Type 0  -- nothing is said of the calls other than questions
+abbrev pub OfQuery : (ℕ → ℕ → Type 0) → Call → Type 0  -- said of questions alone
 OfQuery = ByCall (Unit {0}) (Unit {0}) (λ stamp. Unit {0})
 
-pub record Admits (n k book exact : ℕ) : Type 0 where  -- |book - exact| × (n - k - 1) ≤ 2 × (k + 1) × exact
+pub record Admits (n k book exact : ℕ) : Type 0 where  -- SPECIFICATION 9.3: |book - exact| × (n - k - 1) ≤ 2 × (k + 1) × exact
   pub above : book * (n - (k + 1)) ≤ exact * (n - (k + 1)) + 2 * (k + 1) * exact
   pub below : exact * (n - (k + 1)) ≤ book * (n - (k + 1)) + 2 * (k + 1) * exact
 
-abbrev pub Bound : Turn → Type 0  -- an answered question keeps the bound where n is above k + 1, by the shape then in force
+abbrev pub Bound : Turn → Type 0  -- SPECIFICATION 9.3: an answered question keeps the bound where n is above k + 1, by the shape in force then
 Bound t =
     let s = t .ledger .shape in
-    OfQuery (λ window. t .book .number ≡ 0 → s .k + 1 < s .n → Admits (s .n) (s .k) (getD (t .book .values) 0 0) (getD (t .exact .values) 0 0)) (t .call)
+    OfQuery (λ grade window. t .book .number ≡ 0 → s .k + 1 < s .n → Admits (s .n) (s .k) (getD (t .book .values) 0 0) (getD (t .exact .values) 0 0)) (t .call)
 
-abbrev pub Span : (Turn → Type 0) → List Turn → Type 0  -- P holds of every turn up to the next accepted make, with which the span ends
+abbrev pub Span : (Turn → Type 0) → List Turn → Type 0  -- SPECIFICATION 9.4: P holds of every turn up to the next accepted make, which ends the span
 Span P [] = Unit {0}
-Span P (t ∷ ts) = let here = P t × Span P ts in ByCall ((t .book .number ≡ 0 → ⊥) → here) here (λ stamp. here) (λ window. here) (t .call)
+Span P (t ∷ ts) = let here = P t × Span P ts in ByCall ((t .book .number ≡ 0 → ⊥) → here) here (λ stamp. here) (λ grade window. here) (t .call)
 
-abbrev pub Outside : ℕ → Turn → Type 0  -- a question with a window of at most 2^k, of any grade, answered or not, does not cover the stamp
-Outside stamp t = OfQuery (λ window. window ≤ 2 ^ t .ledger .shape .k → covers (t .ledger .clock) window stamp ≡ false) (t .call)
+abbrev pub Outside : ℕ → Turn → Type 0  -- SPECIFICATION 9.4: a question with a window of at most 2^k does not cover the stamp; of any grade, answered or not
+Outside stamp t = OfQuery (λ grade window. window ≤ 2 ^ t .ledger .shape .k → covers (t .ledger .clock) window stamp ≡ false) (t .call)
 
-abbrev pub Missed : List Turn → Type 0  -- each delivery refused as late lies in no such window asked for later in its span
+abbrev pub Missed : List Turn → Type 0  -- SPECIFICATION 9.4: no such question later in the span covers the stamp of a delivery refused as late
 Missed [] = Unit {0}
-Missed (t ∷ ts) = ByCall (Unit {0}) (Unit {0}) (λ stamp. t .book .number ≡ 9 → Span (Outside stamp) ts) (λ window. Unit {0}) (t .call) × Missed ts
+Missed (t ∷ ts) = ByCall (Unit {0}) (Unit {0}) (λ stamp. t .book .number ≡ 9 → Span (Outside stamp) ts) (λ grade window. Unit {0}) (t .call) × Missed ts
 
-pub record Kept (turns : List Turn) : Type 0 where
-  pub same : Each (λ t. t .book .number ≡ t .exact .number) turns  -- accepted alike, refused under the same numbers
+pub record Kept (turns : List Turn) : Type 0 where  -- what holds of a run
+  pub same : Each (λ t. t .book .number ≡ t .exact .number) turns  -- SPECIFICATION 9.2: both accept, or both refuse under the same number
   pub bound : Each Bound turns
   pub missed : Missed turns
 
-unfoldable pub Claim : Type 0  -- demand 3: for every list of calls, from the words that an accepted make left on any words, and its ledger
+unfoldable pub Claim : Type 0  -- SPECIFICATION 9.5: for every list of calls, from the words that an accepted make left on any words, and from its ledger
 Claim = (before : List ℕ) (k n m g : ℕ) → perform before (Make k n m g) .reply .number ≡ 0 → (calls : List Call)
     → Kept (run (perform before (Make k n m g) .left) (ledgerOf (shaped k n m g) 0 []) calls)

@@ -1,4 +1,4 @@
--- Document 01's number and values for each case of the code's answer. Assumes nothing.
+-- SPECIFICATION 5.1: the number and the values of each case of the code's answer. Assumes nothing.
 use mathlib.Core.List.{[], _∷_}
 use Prim.Native.Nat.{ℕ}
 use Rattle.shape.specs.Limits.{Reply, refused, accepted}
@@ -7,7 +7,7 @@ use Rattle.model.specs.declared.Refusal.the-variants.{Shape, Length, Gra
 use Rattle.model.specs.declared.Answer.{Answer}
 use Rattle.model.specs.declared.Answer.the-variants.{Done, Sum, Refused}
 
-abbrev pub numberOf : Refusal → ℕ  -- document 01's number of a refusal
+abbrev pub numberOf : Refusal → ℕ  -- SPECIFICATION 6.2: the number of a refusal
 numberOf Shape = 1
 numberOf Length = 2
 numberOf Grade = 3
@@ -21,7 +21,7 @@ numberOf Back = 10
 numberOf Block = 11
 numberOf Full = 12
 
-unfoldable pub replyOf : Answer → Reply  -- the number, 0 where accepted, and the sum where there is one
+unfoldable pub replyOf : Answer → Reply  -- the number, 0 where accepted, and the sum of an answered question
 replyOf Done = accepted []
 replyOf (Sum sum) = accepted (sum ∷ [])
 replyOf (Refused r) = refused (numberOf r)

@@ -1,10 +1,11 @@
--- Document 01's examples P1 to P10, as one table that the definitions meet. Assumes nothing.
+-- SPECIFICATION 13: the examples P1 to P10, as one table that the definitions meet. Assumes nothing.
 use mathlib.Core.Bool.{Bool, true, _&&_}
 use mathlib.Core.Path.{_≡_, refl}
 use mathlib.Core.List.{List, [], _∷_, _++_}
 use Prim.Native.Nat.{ℕ}
 use lib.Dec.{ltb}
 use lib.ListN.{getD, replicate, take}
+use Rattle.shape.specs.declared.Shape.{Shape}
 use Rattle.shape.specs.Limits.{Reply, accepted, refused, within, shaped}
 use Rattle.model.specs.declared.Call.{Call}
 use Rattle.model.specs.declared.Call.the-variants.{Make, Clock, Delivery, Query}
@@ -17,17 +18,24 @@ use Rattle.model.specs.Calls.{blockAt, refusals, bookView, made, clocked
 use Rattle.model.specs.Ledger.{Ledger, ledgerOf, ledgerView, enter}
 use Rattle.model.specs.Claim.{Each}
 
+-- the shape of the examples, and how many words each call is lent
+abbrev pub exampleShape : Shape
+exampleShape = shaped 2 2 4 1
+
+abbrev pub exampleWords : ℕ
+exampleWords = bookWords exampleShape
+
 -- what an example says of grade 0 after its calls
 pub data Fact : Type 0 where
   -- level i of the even half
   levelIs : ℕ → Level → Fact
-  -- what the next call is answered, by the book and by the ledger
+  -- what the book and the ledger reply to the next call
   answers : Call → Reply → Fact
   exactly : Call → Reply → Fact
-  -- the level that a window is answered from
+  -- the level that serves a window
   servedFrom : ℕ → ℕ → Fact
 
--- every one of these levels has F past a
+-- each of these levels has F above a
 abbrev pub past : ℕ → List Level → Bool
 past a [] = true
 past a (l ∷ ls) = ltb a (l .first) && past a ls
@@ -35,7 +43,7 @@ past a (l ∷ ls) = ltb a (l .first) && past a ls
 abbrev pub Holds : List ℕ → Ledger → Fact → Type 0
 Holds ws l (levelIs i it) = getD (blockAt ws 0 .even .levels) i (levelOf 0 []) ≡ it
 Holds ws l (answers call reply) = perform ws call .reply ≡ reply
-Holds ws l (exactly call reply) = enter 90 l call .reply ≡ reply
+Holds ws l (exactly call reply) = enter exampleWords l call .reply ≡ reply
 Holds ws l (servedFrom window i) =
     let s = shapeOf ws in
     let start = opening (clockOf ws) window in
@@ -49,9 +57,9 @@ words ws (call ∷ calls) = words (perform ws call .left) calls
 
 abbrev pub entered : Ledger → List Call → Ledger
 entered l [] = l
-entered l (call ∷ calls) = entered (enter 90 l call .left) calls
+entered l (call ∷ calls) = entered (enter exampleWords l call .left) calls
 
--- calls on 90 words, what shape 2, 2, 4, 1 needs, all zero at first; and what then holds
+-- calls on as many words as the shape needs, all zero at first; and what holds after them
 pub record Example : Type 0 where
   pub start : List Call
   pub calls : List Call
@@ -60,15 +68,19 @@ pub record Example : Type 0 where
 abbrev pub Meets : Example → Type 0
 Meets e =
     let calls = e .start ++ e .calls in
-    Each (Holds (words (replicate 90 0) calls) (entered (ledgerOf (shaped 2 2 4 1) 0 []) calls)) (e .facts)
+    Each (Holds (words (replicate exampleWords 0) calls) (entered (ledgerOf exampleShape 0 []) calls)) (e .facts)
 
--- shape 2, 2, 4, 1 with the clock at 3
+-- a book of that shape, with the clock at 3
 abbrev pub start : List Call
-start = Make 2 2 4 1 ∷ Clock 3 ∷ []
+start = Make (exampleShape .k) (exampleShape .n) (exampleShape .m) (exampleShape .g) ∷ Clock 3 ∷ []
 
--- one delivery of grade 0
+-- a delivery of grade 0
 abbrev pub d : ℕ → ℕ → Call
 d stamp volume = Delivery 0 stamp volume
+
+-- a question of grade 0
+abbrev pub q : ℕ → Call
+q window = Query 0 window
 
 -- the calls up to each example
 abbrev pub p₁ : List Call
@@ -99,21 +111,21 @@ table =
     ∷ example p₃
     (levelIs 0 (levelOf 1 (bucketOf 1 1 1 ∷ bucketOf 3 1 1 ∷ []))
     ∷ levelIs 1 (levelOf 0 (bucketOf 0 2 3 ∷ bucketOf 2 2 2 ∷ []))
-    ∷ answers (Query 0 2) (accepted (2 ∷ []))
-    ∷ answers (Query 0 3) (accepted (5 ∷ []))
+    ∷ answers (q 2) (accepted (2 ∷ []))
+    ∷ answers (q 3) (accepted (5 ∷ []))
     ∷ servedFrom 3 1
     ∷ [])
     -- P6
     ∷ example p₆
     (levelIs 1 (levelOf 1 (bucketOf 1 1 2 ∷ bucketOf 2 2 2 ∷ []))
-    ∷ answers (Query 0 3) (accepted (6 ∷ []))
+    ∷ answers (q 3) (accepted (6 ∷ []))
     ∷ servedFrom 3 2
     ∷ [])
-    -- P7, with what the ledger has, and P9 at each stamp
+    -- P7, with the ledger's sum, and P9 at each stamp
     ∷ example p₇
     (levelIs 2 (levelOf 0 (bucketOf 0 2 4 ∷ bucketOf 2 2 4 ∷ []))
-    ∷ answers (Query 0 2) (accepted (4 ∷ []))
-    ∷ exactly (Query 0 2) (accepted (5 ∷ []))
+    ∷ answers (q 2) (accepted (4 ∷ []))
+    ∷ exactly (q 2) (accepted (5 ∷ []))
     ∷ answers (d 0 8) (accepted [])
     ∷ answers (d 1 8) (accepted [])
     ∷ answers (d 2 8) (accepted [])
@@ -123,9 +135,11 @@ table =
     ∷ answers (d 2 9) (refused 12)
     ∷ answers (d 3 9) (refused 12)
     ∷ [])
-    -- P8: of the five the last three change nothing at level 1
+    -- P8: of the five, the last three change nothing at level 1
     ∷ example (p₂ ++ d 0 2 ∷ []) (levelIs 1 (levelOf 1 (bucketOf 1 1 2 ∷ bucketOf 2 2 2 ∷ [])) ∷ [])
     ∷ example (p₂ ++ d 0 5 ∷ []) (levelIs 1 (levelOf 1 (bucketOf 1 1 2 ∷ bucketOf 2 2 2 ∷ [])) ∷ [])
+    -- a bucket of width 1 gains and does not split
+    ∷ example (p₇ ++ d 2 2 ∷ []) (levelIs 1 (levelOf 2 (bucketOf 2 1 4 ∷ bucketOf 3 1 2 ∷ [])) ∷ [])
     -- P10
     ∷ example (p₇ ++ Clock 8 ∷ [])
     (answers (d 4 1) (accepted [])
@@ -151,8 +165,11 @@ table-holds = (
             (
               (refl, tt),
               (
-                (refl, (refl, (refl, tt))),
-                tt,
+                (refl, tt),
+                (
+                  (refl, (refl, (refl, tt))),
+                  tt,
+                ),
               ),
             ),
           ),

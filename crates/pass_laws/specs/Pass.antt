@@ -1,4 +1,4 @@
--- One pass over the buckets of a level: what it collects, and the tests of what it collected. Assumes nothing.
+-- The exact pass over the buckets of a level: what it collects, and the tests of what it collected. Assumes nothing.
 use mathlib.Core.Bool.{Bool, cond, _&&_}
 use mathlib.Core.List.{List, [], _∷_}
 use mathlib.Core.Path.{_≡_}
@@ -14,14 +14,14 @@ use Rattle.pass_laws.specs.declared.Verdict.{Verdict}
 abbrev pub unseen : ℕ → Seen  -- before the first bucket
 unseen first = record { end = first; faults = 0; reach = 0; heavy = 0; short = 0; low = 0; high = 0 }
 
-abbrev pub below : ℕ → ℕ → ℕ  -- x below y, as a number
+abbrev pub below : ℕ → ℕ → ℕ  -- 1 if x is below y, else 0
 below x y = cond (ltb x y) 1 0
 
-abbrev pub less : ℕ → ℕ  -- the word before w; the one before 0 is the last
+abbrev pub less : ℕ → ℕ  -- the word w - 1 modulo 2 ^ 32
 less zero = 4294967295
 less (suc w) = w
 
-abbrev pub spread : Bucket → ℕ  -- the weight of a bucket that is longer than 1
+abbrev pub spread : Bucket → ℕ  -- the weight of a bucket wider than 1, else 0
 spread b = cond (eqb (b .width) 1) 0 (b .weight)
 
 unfoldable pub seeSingle : Seen → Bucket → Seen  -- a bucket of level 0
@@ -35,7 +35,7 @@ seeSingle t b = record {
   high = t .high + b .weight / 65536;
 }
 
-unfoldable pub seeBucket : ℕ → Seen → Bucket → Seen  -- a bucket of a level from 1 on, whose weight is to be `least` or more
+unfoldable pub seeBucket : ℕ → Seen → Bucket → Seen  -- a bucket of a level from 1 on, whose weight must be `least` or more
 seeBucket least t b =
     let gap = bitXor (t .end) (b .offset) in
     let before = less (b .width) in
@@ -57,13 +57,13 @@ abbrev pub seeAll : (Seen → Bucket → Seen) → Seen → List Bucket → Seen
 seeAll see t [] = t
 seeAll see t (b ∷ bs) = seeAll see (see t b) bs
 
-abbrev pub leastOf : ℕ → ℕ → ℕ  -- the least weight of each of `count` buckets
+abbrev pub leastOf : ℕ → ℕ → ℕ  -- the least weight that each of `count` buckets must have
 leastOf count i = cond (leb 2 count) (2 ^ i) 0
 
 abbrev pub seenLevel : ℕ → ℕ → List Bucket → Seen
 seenLevel i first bs = seeAll (seeOne i (leastOf (length bs) i)) (unseen first) bs
 
--- what the lower halves add is below 2 ^ 32, so its remainder is all of it
+-- what the lower 16 bits of the weights add up to is below 2 ^ 32, so its remainder is all of it
 unfoldable pub weightSeen : Seen → ℕ
 weightSeen t = 65536 * t .high + (t .low + (4294967296 - 65536 * t .high % 4294967296)) % 4294967296
 
@@ -71,5 +71,5 @@ unfoldable pub soundSeen : ℕ → ℕ → ℕ → Seen → Bool
 soundSeen k i first t = ltb first (2 ^ k) && (eqb (t .faults) 0 && (ltb (t .reach) (2 ^ k) && (ltb (t .heavy) (2 ^ suc i)
     && (eqb (t .short) 0 && implies (ltb 0 i) (eqb (t .end) (2 ^ k))))))
 
-abbrev pub Judged : ℕ → ℕ → ℕ → List Bucket → Verdict → Type 0  -- the weight and the soundness of a level's buckets
+abbrev pub Judged : ℕ → ℕ → ℕ → List Bucket → Verdict → Type 0  -- a verdict has the weight and the soundness of a level's buckets
 Judged k i first bs v = (v .weight ≡ weightOf bs) × (v .sound ≡ soundBuckets k i first bs)

@@ -1,4 +1,4 @@
--- A pass over the buckets of a level finds just what soundness asks of them, and their weight. Assumes nothing.
+-- The exact pass over the buckets of a level finds exactly what soundness asks of them, and their weight. Assumes nothing.
 use mathlib.Core.List.{List, [], _∷_}
 use mathlib.Core.Logic.{⊎-elim}
 use mathlib.Core.Path.{_≡_, refl, sym, ap, _∙_}
@@ -11,17 +11,17 @@ use lib.Pow.{pow-pos, pow-mono, pow-lt}
 use borrow.Author.Tests.{le-ltb, le-leb, ne-eqb}
 use Rattle.model.specs.Level.{Bucket}
 use Rattle.model.specs.Sound.{weightOf, soundBuckets}
-use Rattle.laws.specs.Cases.{lt-or-ge, by-lt, by-le, by-eq}
-use Rattle.laws.specs.Chain.{Dyadic, width-pos}
-use Rattle.laws.specs.Reflect.{Tests, tests-same, tests-equal, ltb-tests, eqb-tests, and-tests, implies-tests}
-use Rattle.laws.specs.Rise.{Single, Rising}
-use Rattle.laws.specs.SoundFacts.{SoundBucket, Chained, SoundBuckets, buckets-tests}
+use Rattle.laws.specs.Cond.{lt-or-ge, by-lt, by-le, by-eq}
+use Rattle.laws.specs.Add.{Dyadic, width-pos}
+use Rattle.laws.specs.Tests.{Tests, tests-same, tests-equal, ltb-tests, eqb-tests, and-tests, implies-tests}
+use Rattle.laws.specs.Put.{Single, Rising}
+use Rattle.laws.specs.SoundLevel.{SoundBucket, Chained, SoundBuckets, buckets-tests}
 use Rattle.words.specs.Bits.{or-none, none-or, or-least, xor-none, none-xor, lone-bit}
 use Rattle.pass_laws.specs.Pass.{unseen, below, less, spread, seeSingle, seeBucket, seeOne, seeAll, leastOf, seenLevel, weightSeen, soundSeen}
 use Rattle.pass_laws.specs.declared.Seen.{Seen}
 
--- what the tests ask of a pass
-record Passed (k i : ℕ) (t : Seen) : Type 0 where
+-- what the tests require of a pass
+record Faultless (k i : ℕ) (t : Seen) : Type 0 where
   exact : t .faults ≡ 0
   inside : t .reach < 2 ^ k
   light : t .heavy < 2 ^ suc i
@@ -35,7 +35,7 @@ none-below x y = by-lt {a = 1} {b = 0} x y (λ (z : ℕ). z ≡ 0 → y ≤ x) (
 below-none : (x y : ℕ) → y ≤ x → below x y ≡ 0
 below-none x y h = rw (le-ltb x y h)
 
--- a length that the number before it, below 2 ^ k, shows to be within 2 ^ k
+-- a width within 2 ^ k, as follows if the word before it is below 2 ^ k
 pub record Length (k w : ℕ) : Type 0 where
   pub some : 0 < w
   pub before : less w ≡ w - 1
@@ -45,7 +45,7 @@ pub reached : (k w : ℕ) → k ≤ 31 → less w < 2 ^ k → Length k w
 reached k zero hk h = absurd (omega (arith, pow-mono hk))
 reached k (suc w) hk h = record { some = omega arith; before = omega arith; most = omega arith }
 
--- the word that 1 more, up to a multiple of 2 ^ 32, is w
+-- the word that is w if 1 is added modulo 2 ^ 32
 pub less-is : (r w : ℕ) → r < 2 ^ 32 → (r + 1) % 2 ^ 32 ≡ w → r ≡ less w
 less-is r zero h e = omega arith
 less-is r (suc w) h e = omega arith
@@ -54,7 +54,7 @@ pub before-is : (w : ℕ) → 0 < w → less w ≡ w - 1
 before-is zero h = absurd (omega arith)
 before-is (suc w) h = omega arith
 
--- ---- a length and an offset that have no bit in common with the number before the length
+-- ---- a width and an offset that share no bit with the number before the width
 
 pub aligned : (k o w : ℕ) → 0 < w → w ≤ 2 ^ k → bitAnd w (w - 1) ≡ 0 → bitAnd o (w - 1) ≡ 0 → Dyadic k o w
 aligned k o w some most p q =
@@ -80,8 +80,8 @@ module _ (k i count : ℕ) (few : k ≤ 20) where
   abbrev least : ℕ
   least = leastOf count i
 
-  -- a bucket that passed is sound, and those before it had passed
-  bucket-sound : (t : Seen) (b : Bucket) → Passed k i (seeBucket least t b) → Passed k i t × SoundBucket k i count (t .end) b
+  -- a bucket that passed is sound, and those before it passed
+  bucket-sound : (t : Seen) (b : Bucket) → Faultless k i (seeBucket least t b) → Faultless k i t × SoundBucket k i count (t .end) b
   unfolding seeBucket
   bucket-sound t b p =
       let o = b .offset in
@@ -104,7 +104,7 @@ module _ (k i count : ℕ) (few : k ≤ 20) where
       )
 
   -- a sound bucket passes
-  sound-bucket : (t : Seen) (b : Bucket) → Passed k i t → SoundBucket k i count (t .end) b → Passed k i (seeBucket least t b)
+  sound-bucket : (t : Seen) (b : Bucket) → Faultless k i t → SoundBucket k i count (t .end) b → Faultless k i (seeBucket least t b)
   unfolding seeBucket
   sound-bucket t b p s =
       let o = b .offset in
@@ -129,8 +129,8 @@ module _ (k i count : ℕ) (few : k ≤ 20) where
 -- ---- one bucket of level 0
 
 module _ (k i : ℕ) where
-  -- a bucket that passed is sound, and those before it had passed
-  single-sound : (t : Seen) (b : Bucket) → Passed k i (seeSingle t b) → Passed k i t × Single k (t .end) b
+  -- a bucket that passed is sound, and those before it passed
+  single-sound : (t : Seen) (b : Bucket) → Faultless k i (seeSingle t b) → Faultless k i t × Single k (t .end) b
   unfolding seeSingle
   single-sound t b p =
       let f = or-none (t .faults) (bitXor (b .width) 1) (p .exact) in
@@ -145,7 +145,7 @@ module _ (k i : ℕ) where
       )
 
   -- a sound bucket passes
-  sound-single : (t : Seen) (b : Bucket) → Passed k i t → Single k (t .end) b → Passed k i (seeSingle t b)
+  sound-single : (t : Seen) (b : Bucket) → Faultless k i t → Single k (t .end) b → Faultless k i (seeSingle t b)
   unfolding seeSingle
   sound-single t b p s = record {
     exact = none-or _ _ (p .exact) (none-xor (b .width) 1 (s .one));
@@ -156,30 +156,30 @@ module _ (k i : ℕ) where
 
 -- ---- all buckets
 
--- where all passed, those before had passed
-passed-before : (k i : ℕ) (see : Seen → Bucket → Seen) → ((t : Seen) (b : Bucket) → Passed k i (see t b) → Passed k i t)
-    → (t : Seen) (bs : List Bucket) → Passed k i (seeAll see t bs) → Passed k i t
-passed-before k i see back t [] p = p
-passed-before k i see back t (b ∷ bs) p = back t b (passed-before k i see back (see t b) bs p)
+-- if all passed, those before passed
+faultless-before : (k i : ℕ) (see : Seen → Bucket → Seen) → ((t : Seen) (b : Bucket) → Faultless k i (see t b) → Faultless k i t)
+    → (t : Seen) (bs : List Bucket) → Faultless k i (seeAll see t bs) → Faultless k i t
+faultless-before k i see back t [] p = p
+faultless-before k i see back t (b ∷ bs) p = back t b (faultless-before k i see back (see t b) bs p)
 
 module _ (k i : ℕ) (few : k ≤ 20) where
   next-single : (t : Seen) (b : Bucket) → b .offset < 2 ^ k → seeSingle t b .end ≡ b .offset + 1
   unfolding seeSingle
   next-single t b h = mod-eq-of-lt (omega (arith, pow-mono few))
 
-  singles-sound : (t : Seen) (bs : List Bucket) → Passed k i (seeAll seeSingle t bs) → Rising k (t .end) bs
+  singles-sound : (t : Seen) (bs : List Bucket) → Faultless k i (seeAll seeSingle t bs) → Rising k (t .end) bs
   singles-sound t [] p = tt
   singles-sound t (b ∷ bs) p =
-      let s = single-sound k i t b (passed-before k i seeSingle (λ u c q. single-sound k i u c q .0) (seeSingle t b) bs p) .1 in
+      let s = single-sound k i t b (faultless-before k i seeSingle (λ u c q. single-sound k i u c q .0) (seeSingle t b) bs p) .1 in
       (s, rw (← next-single t b (s .high)) (singles-sound (seeSingle t b) bs p))
 
-  sound-singles : (t : Seen) (bs : List Bucket) → Passed k i t → Rising k (t .end) bs → Passed k i (seeAll seeSingle t bs)
+  sound-singles : (t : Seen) (bs : List Bucket) → Faultless k i t → Rising k (t .end) bs → Faultless k i (seeAll seeSingle t bs)
   sound-singles t [] p r = p
   sound-singles t (b ∷ bs) p r =
       sound-singles (seeSingle t b) bs (sound-single k i t b p (r .0)) (rw (next-single t b (r .0 .high)) (r .1))
 
--- the ends stay below 2 ^ 32 as long as there is room for this many buckets
-pub end-next : (k i count start : ℕ) (b : Bucket) (n : ℕ) → k ≤ 20 → start + 1048576 * suc n < 2 ^ 32 → SoundBucket k i count start b
+-- the ends stay below 2 ^ 32 as long as there is room for n buckets more
+end-next : (k i count start : ℕ) (b : Bucket) (n : ℕ) → k ≤ 20 → start + 1048576 * suc n < 2 ^ 32 → SoundBucket k i count start b
     → ((b .offset + b .width) % 2 ^ 32 ≡ b .offset + b .width) × (b .offset + b .width + 1048576 * n < 2 ^ 32)
 end-next k i count start b n few room s =
     let d = s .shape in
@@ -198,29 +198,29 @@ module _ (k i count : ℕ) (few : k ≤ 20) where
   unfolding seeBucket
   next-bucket t b bs room s = let n = end-next k i count (t .end) b (length bs) few room s in (n .0, rw (n .0) (n .1))
 
-  buckets-sound : (t : Seen) (bs : List Bucket) → Room t bs → Passed k i (seeAll see t bs) → seeAll see t bs .end ≡ 2 ^ k
+  buckets-sound : (t : Seen) (bs : List Bucket) → Room t bs → Faultless k i (seeAll see t bs) → seeAll see t bs .end ≡ 2 ^ k
       → Chained k i count (t .end) bs
   buckets-sound t [] room p e = e
   buckets-sound t (b ∷ bs) room p e =
-      let s = bucket-sound k i count few t b (passed-before k i see (λ u c q. bucket-sound k i count few u c q .0) (see t b) bs p) .1 in
+      let s = bucket-sound k i count few t b (faultless-before k i see (λ u c q. bucket-sound k i count few u c q .0) (see t b) bs p) .1 in
       let n = next-bucket t b bs room s in
       (s, rw (← n .0) (buckets-sound (see t b) bs (n .1) p e))
 
-  sound-buckets : (t : Seen) (bs : List Bucket) → Room t bs → Passed k i t → Chained k i count (t .end) bs
-      → Passed k i (seeAll see t bs) × (seeAll see t bs .end ≡ 2 ^ k)
+  sound-buckets : (t : Seen) (bs : List Bucket) → Room t bs → Faultless k i t → Chained k i count (t .end) bs
+      → Faultless k i (seeAll see t bs) × (seeAll see t bs .end ≡ 2 ^ k)
   sound-buckets t [] room p r = (p, r)
   sound-buckets t (b ∷ bs) room p r =
       let n = next-bucket t b bs room (r .0) in
       sound-buckets (see t b) bs (n .1) (sound-bucket k i count few t b p (r .0)) (rw (n .0) (r .1))
 
--- a chain starts at 2 ^ k or before
+-- a chain starts at or before 2 ^ k
 pub chained-start : (k i count start : ℕ) (bs : List Bucket) → Chained k i count start bs → start ≤ 2 ^ k
 chained-start k i count start [] e = omega arith
 chained-start k i count start (b ∷ bs) r = omega (arith, r .0 .at, chained-start k i count (b .offset + b .width) bs (r .1))
 
 -- ---- the weight
 
--- the sum of the weights' upper halves
+-- the sum of the weights' upper 16 bits
 abbrev highs : List Bucket → ℕ
 highs [] = 0
 highs (b ∷ bs) = b .weight / 65536 + highs bs
@@ -256,13 +256,13 @@ one-upper (suc j) least h = refl
 
 -- ---- soundness
 
--- what the tests of a level ask
-abbrev Found : ℕ → ℕ → ℕ → Seen → Type 0
-Found k i first t = (first < 2 ^ k) × Passed k i t × (0 < i → t .end ≡ 2 ^ k)
+-- what the tests of a level require
+abbrev Satisfied : ℕ → ℕ → ℕ → Seen → Type 0
+Satisfied k i first t = (first < 2 ^ k) × Faultless k i t × (0 < i → t .end ≡ 2 ^ k)
 
-found-tests : (k i first : ℕ) (t : Seen) → Tests (soundSeen k i first t) (Found k i first t)
+satisfied-tests : (k i first : ℕ) (t : Seen) → Tests (soundSeen k i first t) (Satisfied k i first t)
 unfolding soundSeen
-found-tests k i first t =
+satisfied-tests k i first t =
     tests-same
     (and-tests (ltb-tests first (2 ^ k)) (and-tests (eqb-tests (t .faults) 0) (and-tests (ltb-tests (t .reach) (2 ^ k))
     (and-tests (ltb-tests (t .heavy) (2 ^ suc i)) (and-tests (eqb-tests (t .short) 0)
@@ -271,21 +271,21 @@ found-tests k i first t =
     (λ f. let p = f .1 in (f .0, (p .exact, (p .inside, (p .light, (p .enough, f .2))))))
 
 module _ (k first : ℕ) (few : k ≤ 20) where
-  begun : (i : ℕ) → Passed k i (unseen first)
+  begun : (i : ℕ) → Faultless k i (unseen first)
   begun i = record { exact = refl; inside = pow-pos k; light = pow-pos (suc i); enough = refl }
 
-  found-sound : (i : ℕ) (bs : List Bucket) → length bs ≤ 1024 → Found k i first (seenLevel i first bs) → SoundBuckets k i first bs
-  found-sound zero bs small f = (f .0, singles-sound k 0 few (unseen first) bs (f .1))
-  found-sound (suc j) [] small f = absurd (omega (arith, f .0, f .2 (omega arith)))
-  found-sound (suc j) (b ∷ bs) small f =
+  satisfied-sound : (i : ℕ) (bs : List Bucket) → length bs ≤ 1024 → Satisfied k i first (seenLevel i first bs) → SoundBuckets k i first bs
+  satisfied-sound zero bs small f = (f .0, singles-sound k 0 few (unseen first) bs (f .1))
+  satisfied-sound (suc j) [] small f = absurd (omega (arith, f .0, f .2 (omega arith)))
+  satisfied-sound (suc j) (b ∷ bs) small f =
       let count = length (b ∷ bs) in
       let room : first + 1048576 * count < 2 ^ 32 = omega (arith, f .0, pow-mono few) in
       (omega arith, buckets-sound k (suc j) count few (unseen first) (b ∷ bs) room (f .1) (f .2 (omega arith)))
 
-  sound-found : (i : ℕ) (bs : List Bucket) → length bs ≤ 1024 → SoundBuckets k i first bs → Found k i first (seenLevel i first bs)
-  sound-found zero bs small s = (s .0, sound-singles k 0 few (unseen first) bs (begun 0) (s .1), λ h. absurd (omega arith))
-  sound-found (suc j) [] small s = absurd (omega (arith, s .0))
-  sound-found (suc j) (b ∷ bs) small s =
+  sound-satisfied : (i : ℕ) (bs : List Bucket) → length bs ≤ 1024 → SoundBuckets k i first bs → Satisfied k i first (seenLevel i first bs)
+  sound-satisfied zero bs small s = (s .0, sound-singles k 0 few (unseen first) bs (begun 0) (s .1), λ h. absurd (omega arith))
+  sound-satisfied (suc j) [] small s = absurd (omega (arith, s .0))
+  sound-satisfied (suc j) (b ∷ bs) small s =
       let r = s .1 in
       let count = length (b ∷ bs) in
       let end = chained-start k (suc j) count (b .offset + b .width) bs (r .1) in
@@ -297,5 +297,5 @@ module _ (k first : ℕ) (few : k ≤ 20) where
   pub seen-sound : (i : ℕ) (bs : List Bucket) → length bs ≤ 1024 → soundSeen k i first (seenLevel i first bs) ≡ soundBuckets k i first bs
   seen-sound i bs small =
       tests-equal
-      (tests-same (found-tests k i first (seenLevel i first bs)) (found-sound i bs small) (sound-found i bs small))
+      (tests-same (satisfied-tests k i first (seenLevel i first bs)) (satisfied-sound i bs small) (sound-satisfied i bs small))
       (buckets-tests k i first bs)

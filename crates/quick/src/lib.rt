@@ -1,6 +1,6 @@
-// A quick pass over the buckets of a level: where its tests hold they are sound, and where not the pass that decides is made.
+// The check of a level's buckets: the quick pass first, and the exact pass if its tests fail.
 use pass::judge_seen;
-use pass::least;
+use pass::least_of;
 use quick_laws::Quick;
 use turns::quick_buckets;
 use words::both;
@@ -15,9 +15,9 @@ ghost use lib.Dec.{leb};
 ghost use lib.ListN.{length, getD};
 ghost use Rattle.model.specs.Words.{slots};
 ghost use Rattle.model.specs.Sound.{weightOf, soundBuckets};
-ghost use Rattle.quick_laws.specs.Quick.{mostOf, enough, tried, fits};
+ghost use Rattle.quick_laws.specs.Quick.{mostOf, isEnough, isTried, weighs};
 
-// The sum of the weights, up to a multiple of 2 ^ 32.
+// The sum of the weights modulo 2 ^ 32.
 fn weight_of(level: &[u32], count: usize) -> u32
     requires { ⌜ (2 + 3 * count ≤ length (now level)) × (count ≤ 1024) ⌝ }
     ensures { λ r. ⌜ r ≡ weightOf (slots (now (level .entry)) 0 count) % 2 ^ 32 ⌝ }
@@ -32,8 +32,8 @@ fn weight_of(level: &[u32], count: usize) -> u32
     sum
 }
 
-// What the weight of a bucket that is longer than 1 has at most above the least one.
-fn most(count: usize, i: u8) -> u32
+// How much the weight of a bucket wider than 1 may be above the least one.
+fn most_of(count: usize, i: u8) -> u32
     requires { ⌜ i ≤ 30 ⌝ }
     ensures { λ r. ⌜ r ≡ mostOf count i ⌝ }
 {
@@ -44,10 +44,11 @@ fn most(count: usize, i: u8) -> u32
     }
 }
 
-// Whether a quick pass tells that the buckets are sound and, where the least weight is at most 2 ^ 20, their weights' sum below 2 ^ 32.
+// Whether the tests of the quick pass hold. Then the buckets are sound and, if the least weight is at most 2 ^ 20, their weights add up to
+// less than 2 ^ 32.
 fn is_enough(t: Quick, first: u32, k: u8) -> bool
     requires { ⌜ k ≤ 31 ⌝ }
-    ensures { λ r. ⌜ r ≡ enough k first t ⌝ }
+    ensures { λ r. ⌜ r ≡ isEnough k first t ⌝ }
 {
     let top = power(k);
     let small = t.extra < 2097152;
@@ -60,16 +61,16 @@ fn is_enough(t: Quick, first: u32, k: u8) -> bool
     )
 }
 
-// Whether a quick pass is tried: where the least weight is at most 2 ^ 20, since the sum of 1024 weights that pass its tests is then below
-// 2 ^ 32.
+// Whether the quick pass is tried: only if the least weight is at most 2 ^ 20, since then 1024 weights that pass its tests add up to less
+// than 2 ^ 32.
 fn is_tried(count: usize, i: u8) -> bool
     requires { ⌜ i ≤ 24 ⌝ }
-    ensures { λ r. ⌜ r ≡ tried count i ⌝ }
+    ensures { λ r. ⌜ r ≡ isTried count i ⌝ }
 {
-    both(0 < i, both(0 < count, least(count, i) <= 1048576))
+    both(0 < i, both(0 < count, least_of(count, i) <= 1048576))
 }
 
-// Whether so many weights, each at most `extra` above `least`, are at most the total together.
+// Whether `count` weights, each at most `extra` above `least`, are at most the total together.
 fn is_bounded(least: u32, extra: u32, count: usize, total: u64) -> bool
     requires { ⌜ count ≤ 1024 ⌝ }
     ensures { λ r. ⌜ r ≡ leb ((least + extra) * count) total ⌝ }
@@ -80,23 +81,24 @@ fn is_bounded(least: u32, extra: u32, count: usize, total: u64) -> bool
 
 // Whether a level's weight is what its half's total asks.
 fn weighs(weight: u64, first: u32, total: u64) -> bool
-    ensures { λ r. ⌜ r ≡ fits first total weight ⌝ }
+    ensures { λ r. ⌜ r ≡ weighs first total weight ⌝ }
 {
     both(weight <= total, implied(first == 0, weight == total))
 }
 
-// Whether a level's buckets are sound and weigh what its half's total asks: by a quick pass, where that is enough. Where F is above 0 the
-// weights are only asked to be at most the total, so none is added where so many of the largest that the pass may have seen are.
-// The pass is called in both arms: a function that is called once is put into its caller, and there the compiler no longer finds the rows.
+// Whether a level's buckets are sound and weigh what its half's total asks. The quick pass answers if its tests hold. If F is above 0 the
+// weights must only be at most the total; then none is added if the count times the largest weight that the pass may have seen is at most
+// the total. The quick pass is called in both branches: a function that is called once is put into its caller, and there the compiler no
+// longer finds the rows.
 pub fn sound_buckets(level: &[u32], count: usize, k: u8, i: u8, total: u64) -> bool
     requires { ⌜ (2 + 3 * count ≤ length (now level)) × (count ≤ 1024) × (k ≤ 20) × (i ≤ 24) ⌝ }
     ensures { λ r. ⌜ r ≡ (soundBuckets k i (getD (now (level .entry)) 1 0) (slots (now (level .entry)) 0 count)
-        && fits (getD (now (level .entry)) 1 0) total (weightOf (slots (now (level .entry)) 0 count))) ⌝ }
+        && weighs (getD (now (level .entry)) 1 0) total (weightOf (slots (now (level .entry)) 0 count))) ⌝ }
 {
     let first = level[1];
     if is_tried(count, i) {
-        let low = least(count, i);
-        let high = most(count, i);
+        let low = least_of(count, i);
+        let high = most_of(count, i);
         if 0 < first {
             let t = quick_buckets(level, count, low, high);
             if is_enough(t, first, k) {

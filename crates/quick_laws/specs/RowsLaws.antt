@@ -1,4 +1,5 @@
--- Where the tests of a quick pass by rows hold, the buckets are sound, and none weighs more than the largest that it may have seen. Assumes nothing.
+-- If the tests of the quick pass by rows hold, the buckets are sound, and no weight exceeds the largest that the pass may have seen. Assumes
+-- nothing.
 use mathlib.Core.Bool.{true, _&&_}
 use mathlib.Core.List.{List, _++_}
 use mathlib.Core.Path.{_≡_, refl, sym, ap, _∙_}
@@ -15,19 +16,19 @@ use Rattle.shape.specs.LimitsLaws.{both}
 use Rattle.model.specs.Level.{Bucket}
 use Rattle.model.specs.Words.{slots}
 use Rattle.model.specs.Sound.{weightOf, soundBuckets}
-use Rattle.laws.specs.SoundFacts.{buckets-tests}
+use Rattle.laws.specs.SoundLevel.{buckets-tests}
 use Rattle.laws.specs.LevelWords.{slots-all, length-slots}
-use Rattle.words.specs.Slot.{front, front-at, cons-same, part-all, moved}
+use Rattle.words.specs.Slot.{front, front-at, cons-same, part-all, part-past}
 use Rattle.words.specs.Bits.{or-none, or-least, xor-none}
 use Rattle.pass_laws.specs.Pass.{leastOf}
 use Rattle.pass_laws.specs.PassLaws.{reached}
-use Rattle.quick_laws.specs.Quick.{quickEach, mostOf, enough, tried, fits}
-use Rattle.quick_laws.specs.QuickLaws.{Enough, Leads, Held, firstWidth, mark-inside, quick-end, all-before, each-before, all-held, each-held, enough-tests, tried-tests}
-use Rattle.quick_laws.specs.Rows.{opened, rowSlots, row, ending, seam, turn, turns, begun, joined, ReadRows, ByRows}
+use Rattle.quick_laws.specs.Quick.{quickEach, mostOf, isEnough, isTried, weighs}
+use Rattle.quick_laws.specs.QuickLaws.{Enough, Leads, Held, firstWidth, mark-inside, quick-end, all-before, each-before, all-held, each-held, isEnough-tests, isTried-tests}
+use Rattle.quick_laws.specs.Rows.{openRow, rowSlots, quickRow, endAt, seamAt, quickTurn, quickTurns, begun, joinRows, ReadRows, ByRows}
 use Rattle.quick_laws.specs.declared.Quick.{Quick}
 use Rattle.quick_laws.specs.declared.Rows.{Rows}
 
--- the word that has the first bucket's length
+-- the word with the first bucket's width
 first-width : (ws : List ℕ) (c : ℕ) → 0 < c → firstWidth (slots ws 0 c) ≡ getD ws 3 0
 first-width ws zero h = absurd (omega arith)
 first-width ws (suc c) h = refl
@@ -46,43 +47,43 @@ slots-row ws v base at j n c e h four room =
 
 -- ---- the loop over turns
 
--- what it has: some turns were made, and `rest` starts at the slot after them
+-- the invariant: some turns were made, and `rest` starts at the slot after them
 abbrev pub Turning : ℕ → ℕ → List ℕ → ℕ → Rows → List ℕ → ℕ → Type 0
 Turning least most ws count t rest at = ReadRows least most ws count t at × (rest ≡ drop (2 + 3 * at) ws)
 
 module _ (least most : ℕ) (ws : List ℕ) (count : ℕ) where
-  pub turns-start : Turning least most ws count (begun (getD ws 1 0) (getD ws 3 0)) (take (length ws - 2) (drop 2 ws)) 0
-  turns-start = (record { turned = 0; reads = refl; within = omega arith; rows = refl }, part-all ws 2)
+  pub quickTurns-start : Turning least most ws count (begun (getD ws 1 0) (getD ws 3 0)) (take (length ws - 2) (drop 2 ws)) 0
+  quickTurns-start = (record { turned = 0; reads = refl; within = omega arith; rows = refl }, part-all ws 2)
 
   -- sixteen slots are left at the front
-  pub turns-room : (t : Rows) (rest : List ℕ) (at : ℕ) → Turning least most ws count t rest at → 2 + 3 * count ≤ length ws → at + 16 ≤ count → 48 ≤ length rest
-  turns-room t rest at f room more = rw (f .1, length-drop (2 + 3 * at) ws) (omega (arith, room, more))
+  pub quickTurns-room : (t : Rows) (rest : List ℕ) (at : ℕ) → Turning least most ws count t rest at → 2 + 3 * count ≤ length ws → at + 16 ≤ count → 48 ≤ length rest
+  quickTurns-room t rest at f room more = rw (f .1, length-drop (2 + 3 * at) ws) (omega (arith, room, more))
 
-  -- and are those from slot `at` on
-  turn-words : (rest : List ℕ) (at n : ℕ) → rest ≡ drop (2 + 3 * at) ws → at ≡ 16 * n → rest ≡ drop (48 * n) (drop 2 ws)
-  turn-words rest at n e h =
+  -- they are the slots from slot `at` on
+  quickTurn-words : (rest : List ℕ) (at n : ℕ) → rest ≡ drop (2 + 3 * at) ws → at ≡ 16 * n → rest ≡ drop (48 * n) (drop 2 ws)
+  quickTurn-words rest at n e h =
       e ∙ ap (λ (z : ℕ). drop z ws) {x = 2 + 3 * at} {y = 2 + 48 * n} (omega (arith, h)) ∙ sym (drop-drop (48 * n) 2 ws)
 
-  pub turns-next : (t : Rows) (rest : List ℕ) (at : ℕ) → Turning least most ws count t rest at → at + 16 ≤ count
-      → Turning least most ws count (turn least most t rest) (take (length rest - 48) (drop 48 rest)) (at + 16)
-  turns-next t rest at f more =
+  pub quickTurns-next : (t : Rows) (rest : List ℕ) (at : ℕ) → Turning least most ws count t rest at → at + 16 ≤ count
+      → Turning least most ws count (quickTurn least most t rest) (take (length rest - 48) (drop 48 rest)) (at + 16)
+  quickTurns-next t rest at f more =
       let r = f .0 in
-      let here = turn-words rest at (r .turned) (f .1) (r .reads) in (
+      let here = quickTurn-words rest at (r .turned) (f .1) (r .reads) in (
         record {
           turned = suc (r .turned);
           reads = omega (arith, r .reads);
           within = more;
-          rows = ap (λ (z : Rows). turn least most z rest) (r .rows) ∙ ap (turn least most _) here;
+          rows = ap (λ (z : Rows). quickTurn least most z rest) (r .rows) ∙ ap (quickTurn least most _) here;
         },
-        moved rest ws (2 + 3 * at) 48 (f .1) ∙ ap (λ (z : ℕ). drop z ws) {x = 2 + 3 * at + 48} {y = 2 + 3 * (at + 16)} (omega arith),
+        part-past rest ws (2 + 3 * at) 48 (f .1) ∙ ap (λ (z : ℕ). drop z ws) {x = 2 + 3 * at + 48} {y = 2 + 3 * (at + 16)} (omega arith),
       )
 
--- the loop goes on only where sixteen slots are left
+-- the loop goes on only if sixteen slots are left
 pub goes-room : (gap at count : ℕ) → (leb (at + 16) count && eqb gap 0) ≡ true → at + 16 ≤ count
 goes-room gap at count e = leb-true (at + 16) count (both {a = leb (at + 16) count} {b = eqb gap 0} e .0)
 
 -- the slots after the turns, one by one
-pub rows-rest : (least most : ℕ) (ws : List ℕ) (count : ℕ) (t : Rows) (at : ℕ) (j r : Quick) → ReadRows least most ws count t at → j ≡ joined t
+pub rows-rest : (least most : ℕ) (ws : List ℕ) (count : ℕ) (t : Rows) (at : ℕ) (j r : Quick) → ReadRows least most ws count t at → j ≡ joinRows t
     → r ≡ quickEach least most j (slots ws at (count - at)) → ByRows least most ws count r
 rows-rest least most ws count t at j r f e h =
     record {
@@ -98,38 +99,38 @@ module _ (k i count e : ℕ) (few : k ≤ 20) (low : i ≤ 24) (small : leastOf 
   abbrev most : ℕ
   most = mostOf count i
 
-  -- what holds of the slots from slot j on, if they are to start at `start`
+  -- what holds of the slots from slot j on, if they must start at `start`
   abbrev Tail : ℕ → ℕ → Type 0
   Tail start j = Leads start (slots ws j (count - j)) → Held k i count e start (slots ws j (count - j))
 
   -- ---- a row
 
-  row-before : (t : Quick) (v : List ℕ) (at : ℕ) → Enough k e (row least most t v at) → Enough k e t × (getD v at 0 ≤ 2 ^ 21)
-  row-before t v at p =
-      let q = all-before k i count e few low small light (opened t (getD v at 0)) (rowSlots v at) p in
+  quickRow-before : (t : Quick) (v : List ℕ) (at : ℕ) → Enough k e (quickRow least most t v at) → Enough k e t × (getD v at 0 ≤ 2 ^ 21)
+  quickRow-before t v at p =
+      let q = all-before k i count e few low small light (openRow t (getD v at 0)) (rowSlots v at) p in
       let m = mark-inside k e (record { end = getD v at 0; faults = t .faults; reach = t .reach; extra = t .extra }) few q in
       (record { exact = m .0 .exact; inside = m .0 .inside; near = m .0 .near }, m .1)
 
-  row-end : (t : Quick) (v : List ℕ) (at : ℕ) → row least most t v at .end ≡ ending v (at + 9)
-  row-end t v at =
-      let last : (front (drop (at + 9) v) .offset + front (drop (at + 9) v) .width) % 2 ^ 32 ≡ ending v (at + 9) = simp (getD-drop, add-zero) in
+  quickRow-end : (t : Quick) (v : List ℕ) (at : ℕ) → quickRow least most t v at .end ≡ endAt v (at + 9)
+  quickRow-end t v at =
+      let last : (front (drop (at + 9) v) .offset + front (drop (at + 9) v) .width) % 2 ^ 32 ≡ endAt v (at + 9) = simp (getD-drop, add-zero) in
       quick-end k i count e few low small light _ (front (drop (at + 9) v)) ∙ last
 
   moved-tail : (s z j : ℕ) → s ≡ z → Tail z j → Tail s j
   moved-tail s z j same h = rw same h
 
-  row-tail : (t : Quick) (v : List ℕ) (base at j n start : ℕ) → v ≡ drop (2 + 3 * base) ws → at + 3 * base ≡ 3 * j → j + 4 ≡ n → n ≤ count
-      → Enough k e (row least most t v at) → ending v (at + 9) ≡ start → Tail start n → Tail (getD v at 0) j
-  row-tail t v base at j n start here place four room p same after =
-      let begins = row-before t v at p in
-      let ends = moved-tail (row least most t v at .end) start n (row-end t v at ∙ same) after in
+  quickRow-tail : (t : Quick) (v : List ℕ) (base at j n start : ℕ) → v ≡ drop (2 + 3 * base) ws → at + 3 * base ≡ 3 * j → j + 4 ≡ n → n ≤ count
+      → Enough k e (quickRow least most t v at) → endAt v (at + 9) ≡ start → Tail start n → Tail (getD v at 0) j
+  quickRow-tail t v base at j n start here place four room p same after =
+      let begins = quickRow-before t v at p in
+      let ends = moved-tail (quickRow least most t v at .end) start n (quickRow-end t v at ∙ same) after in
       rw (slots-row ws v base at j n count here place four room)
-      (λ leads. all-held k i count e few low small light 21 (opened t (getD v at 0)) (rowSlots v at) (slots ws n (count - n))
+      (λ leads. all-held k i count e few low small light 21 (openRow t (getD v at 0)) (rowSlots v at) (slots ws n (count - n))
       (omega arith) (omega arith) (begins .1) leads p ends)
 
   -- ---- turns
 
-  -- what the tests ask of all rows
+  -- what the tests require of all rows
   record Fine (t : Rows) : Type 0 where
     one : Enough k e (t .one)
     two : Enough k e (t .two)
@@ -137,45 +138,45 @@ module _ (k i count e : ℕ) (few : k ≤ 20) (low : i ≤ 24) (small : leastOf 
     four : Enough k e (t .four)
     gap : t .gap ≡ 0
 
-  turn-tail : (t : Rows) (v : List ℕ) (j n : ℕ) → v ≡ drop (2 + 3 * j) ws → j + 16 ≡ n → n ≤ count → Fine (turn least most t v)
-      → Tail (turn least most t v .end) n → Fine t × Tail (t .end) j
-  unfolding turn
-  turn-tail t v j n here sixteen room f after =
-      let g0 = or-none _ (seam v 33) (f .gap) in
-      let g1 = or-none _ (seam v 21) (g0 .0) in
-      let g2 = or-none _ (seam v 9) (g1 .0) in
+  quickTurn-tail : (t : Rows) (v : List ℕ) (j n : ℕ) → v ≡ drop (2 + 3 * j) ws → j + 16 ≡ n → n ≤ count → Fine (quickTurn least most t v)
+      → Tail (quickTurn least most t v .end) n → Fine t × Tail (t .end) j
+  unfolding quickTurn
+  quickTurn-tail t v j n here sixteen room f after =
+      let g0 = or-none _ (seamAt v 33) (f .gap) in
+      let g1 = or-none _ (seamAt v 21) (g0 .0) in
+      let g2 = or-none _ (seamAt v 9) (g1 .0) in
       let g3 = or-none (t .gap) (bitXor (t .end) (getD v 0 0)) (g2 .0) in
-      let d = row-tail (t .four) v j 36 (j + 12) n (ending v 45) here (omega arith) (omega (arith, sixteen)) room (f .four) refl after in
-      let c = row-tail (t .three) v j 24 (j + 8) (j + 12) (getD v 36 0) here (omega arith) (omega arith) (omega (arith, sixteen, room)) (f .three)
-      (xor-none (ending v 33) (getD v 36 0) (g0 .1)) d in
-      let b = row-tail (t .two) v j 12 (j + 4) (j + 8) (getD v 24 0) here (omega arith) (omega arith) (omega (arith, sixteen, room)) (f .two)
-      (xor-none (ending v 21) (getD v 24 0) (g1 .1)) c in
-      let a = row-tail (t .one) v j 0 j (j + 4) (getD v 12 0) here (omega arith) (omega arith) (omega (arith, sixteen, room)) (f .one)
-      (xor-none (ending v 9) (getD v 12 0) (g2 .1)) b in (
+      let d = quickRow-tail (t .four) v j 36 (j + 12) n (endAt v 45) here (omega arith) (omega (arith, sixteen)) room (f .four) refl after in
+      let c = quickRow-tail (t .three) v j 24 (j + 8) (j + 12) (getD v 36 0) here (omega arith) (omega arith) (omega (arith, sixteen, room)) (f .three)
+      (xor-none (endAt v 33) (getD v 36 0) (g0 .1)) d in
+      let b = quickRow-tail (t .two) v j 12 (j + 4) (j + 8) (getD v 24 0) here (omega arith) (omega arith) (omega (arith, sixteen, room)) (f .two)
+      (xor-none (endAt v 21) (getD v 24 0) (g1 .1)) c in
+      let a = quickRow-tail (t .one) v j 0 j (j + 4) (getD v 12 0) here (omega arith) (omega arith) (omega (arith, sixteen, room)) (f .one)
+      (xor-none (endAt v 9) (getD v 12 0) (g2 .1)) b in (
         record {
-          one = row-before (t .one) v 0 (f .one) .0;
-          two = row-before (t .two) v 12 (f .two) .0;
-          three = row-before (t .three) v 24 (f .three) .0;
-          four = row-before (t .four) v 36 (f .four) .0;
+          one = quickRow-before (t .one) v 0 (f .one) .0;
+          two = quickRow-before (t .two) v 12 (f .two) .0;
+          three = quickRow-before (t .three) v 24 (f .three) .0;
+          four = quickRow-before (t .four) v 36 (f .four) .0;
           gap = g3 .0;
         },
         moved-tail (t .end) (getD v 0 0) j (xor-none (t .end) (getD v 0 0) (g3 .1)) a,
       )
 
-  turns-tail : (n : ℕ) (t : Rows) → 16 * n ≤ count → Fine (turns least most n t (drop 2 ws))
-      → Tail (turns least most n t (drop 2 ws) .end) (16 * n) → Fine t × Tail (t .end) 0
-  turns-tail zero t room f after = (f, after)
-  turns-tail (suc n) t room f after =
+  quickTurns-tail : (n : ℕ) (t : Rows) → 16 * n ≤ count → Fine (quickTurns least most n t (drop 2 ws))
+      → Tail (quickTurns least most n t (drop 2 ws) .end) (16 * n) → Fine t × Tail (t .end) 0
+  quickTurns-tail zero t room f after = (f, after)
+  quickTurns-tail (suc n) t room f after =
       let v = drop (48 * n) (drop 2 ws) in
       let here : v ≡ drop (2 + 3 * (16 * n)) ws =
       drop-drop (48 * n) 2 ws ∙ ap (λ (z : ℕ). drop z ws) {x = 2 + 48 * n} {y = 2 + 3 * (16 * n)} (omega arith) in
-      let p = turn-tail (turns least most n t (drop 2 ws)) v (16 * n) (16 * suc n) here (omega arith) room f after in
-      turns-tail n t (omega (arith, room)) (p .0) (p .1)
+      let p = quickTurn-tail (quickTurns least most n t (drop 2 ws)) v (16 * n) (16 * suc n) here (omega arith) room f after in
+      quickTurns-tail n t (omega (arith, room)) (p .0) (p .1)
 
   -- ---- all rows, and the slots after them
 
-  joined-fine : (t : Rows) → Enough k e (joined t) → Fine t × (t .end ≤ 2 ^ 21)
-  joined-fine t p =
+  joinRows-fine : (t : Rows) → Enough k e (joinRows t) → Fine t × (t .end ≤ 2 ^ 21)
+  joinRows-fine t p =
       let f0 = or-none _ (t .gap) (p .exact) in
       let f1 = or-none _ (t .four .faults) (f0 .0) in
       let f2 = or-none _ (t .three .faults) (f1 .0) in
@@ -202,12 +203,12 @@ module _ (k i count e : ℕ) (few : k ≤ 20) (low : i ≤ 24) (small : leastOf 
   rows-held r some g p z =
       let first = getD ws 1 0 in
       let width = getD ws 3 0 in
-      let t = turns least most (g .turned) (begun first width) (drop 2 ws) in
+      let t = quickTurns least most (g .turned) (begun first width) (drop 2 ws) in
       let bs = slots ws (16 * g .turned) (count - 16 * g .turned) in
-      let q : Enough k e (quickEach least most (joined t) bs) = rw (g .same) at p in
-      let f = joined-fine t (each-before k i count e few low small light (joined t) bs q) in
-      let h = turns-tail (g .turned) (begun first width) (g .within) (f .0)
-      (λ leads. each-held k i count e few low small light (joined t) bs (f .1) leads q (rw (g .same) at z)) in
+      let q : Enough k e (quickEach least most (joinRows t) bs) = rw (g .same) at p in
+      let f = joinRows-fine t (each-before k i count e few low small light (joinRows t) bs q) in
+      let h = quickTurns-tail (g .turned) (begun first width) (g .within) (f .0)
+      (λ leads. each-held k i count e few low small light (joinRows t) bs (f .1) leads q (rw (g .same) at z)) in
       let l = reached 21 width (omega arith) (omega (arith, h .0 .one .inside, pow-mono few)) in
       (rw (slots-all ws count) at (h .1)) (λ _. rw (first-width ws count some) (l .some, l .most))
 
@@ -220,40 +221,40 @@ module _ (ws : List ℕ) (count k : ℕ) (few : k ≤ 20) where
   abbrev first : ℕ
   first = getD ws 1 0
 
-  -- level i, of which a quick pass tells enough
+  -- the buckets of level i are sound if the tests of the quick pass hold
   held-sound : (i e : ℕ) → 0 < i → 0 < count → Held k i count e first bs → soundBuckets k i first bs ≡ true
   held-sound zero e upper some h = absurd (omega (arith, upper))
   held-sound (suc j) e upper some h =
       let n = length-slots ws 0 count in
       buckets-tests k (suc j) first bs .1 (rw n some, rw n (h .0))
 
-  pub rows-enough : (i : ℕ) (r : Quick) → i ≤ 24 → tried count i ≡ true → ByRows (leastOf count i) (mostOf count i) ws count r → enough k first r ≡ true
+  rows-enough : (i : ℕ) (r : Quick) → i ≤ 24 → isTried count i ≡ true → ByRows (leastOf count i) (mostOf count i) ws count r → isEnough k first r ≡ true
       → (soundBuckets k i first bs ≡ true) × (weightOf bs ≤ (leastOf count i + r .extra) * count)
   rows-enough i r low t g seen =
-      let p = tried-tests count i .0 t in
-      let f = enough-tests k first r .0 seen in
+      let p = isTried-tests count i .0 t in
+      let f = isEnough-tests k first r .0 seen in
       let h = rows-held k i count (r .extra) few low (p .2) (f .3) ws r (p .1) g (f .1) (f .2) in
       (held-sound i (r .extra) (p .0) (p .1) h, rw (length-slots ws 0 count) at (h .1))
 
-  -- so that the sum of the weights is below 2 ^ 32
-  pub rows-weight : (i : ℕ) (r : Quick) → i ≤ 24 → count ≤ 1024 → tried count i ≡ true → ByRows (leastOf count i) (mostOf count i) ws count r
-      → enough k first r ≡ true → weightOf bs % 2 ^ 32 ≡ weightOf bs
+  -- so the sum of the weights is below 2 ^ 32
+  rows-weight : (i : ℕ) (r : Quick) → i ≤ 24 → count ≤ 1024 → isTried count i ≡ true → ByRows (leastOf count i) (mostOf count i) ws count r
+      → isEnough k first r ≡ true → weightOf bs % 2 ^ 32 ≡ weightOf bs
   rows-weight i r low few-buckets t g seen =
-      let p = tried-tests count i .0 t in
-      let f = enough-tests k first r .0 seen in
+      let p = isTried-tests count i .0 t in
+      let f = isEnough-tests k first r .0 seen in
       let h = rows-enough i r low t g seen in
       let top : (leastOf count i + r .extra) * count ≤ 3145728 * count = mul-le-mul-right {m = leastOf count i + r .extra} {n = 3145728} count (omega (arith, p .2, f .3)) in
       mod-eq-of-lt (omega (arith, h .1, top, few-buckets))
 
   -- so the answer is whether the weight is what the total asks
-  pub enough-fits : (i total : ℕ) (r : Quick) (w : ℕ) → i ≤ 24 → count ≤ 1024 → tried count i ≡ true → ByRows (leastOf count i) (mostOf count i) ws count r
-      → enough k first r ≡ true → w ≡ weightOf bs % 2 ^ 32 → fits first total w ≡ (soundBuckets k i first bs && fits first total (weightOf bs))
-  enough-fits i total r w low few-buckets t g seen e =
+  pub isEnough-weighs : (i total : ℕ) (r : Quick) (w : ℕ) → i ≤ 24 → count ≤ 1024 → isTried count i ≡ true → ByRows (leastOf count i) (mostOf count i) ws count r
+      → isEnough k first r ≡ true → w ≡ weightOf bs % 2 ^ 32 → weighs first total w ≡ (soundBuckets k i first bs && weighs first total (weightOf bs))
+  isEnough-weighs i total r w low few-buckets t g seen e =
       rw (rows-enough i r low t g seen .0, e ∙ rows-weight i r low few-buckets t g seen)
 
-  -- and yes where F is above 0 and so many of the largest weight that was seen are at most the total
-  pub bounded-fits : (i total : ℕ) (r : Quick) → i ≤ 24 → tried count i ≡ true → ByRows (leastOf count i) (mostOf count i) ws count r
-      → enough k first r ≡ true → 0 < first → (leastOf count i + r .extra) * count ≤ total → true ≡ (soundBuckets k i first bs && fits first total (weightOf bs))
-  bounded-fits i total r low t g seen past bound =
+  -- the answer is yes if F is above 0 and the count times the largest weight seen is at most the total
+  pub bounded-weighs : (i total : ℕ) (r : Quick) → i ≤ 24 → isTried count i ≡ true → ByRows (leastOf count i) (mostOf count i) ws count r
+      → isEnough k first r ≡ true → 0 < first → (leastOf count i + r .extra) * count ≤ total → true ≡ (soundBuckets k i first bs && weighs first total (weightOf bs))
+  bounded-weighs i total r low t g seen past bound =
       let h = rows-enough i r low t g seen in
       rw (h .0, le-leb (weightOf bs) total (omega (arith, h .1, bound)), ne-eqb first 0 (λ e. omega (arith, e, past)))

@@ -1,4 +1,4 @@
-// Reading a line of the bench program: one byte more, and the call of a letter and its numbers.
+// Reading a line of the bench program (SPECIFICATION 11.3): one more byte, and the call that a letter and its numbers make.
 use grammar::Kept;
 use grammar::Parsed;
 use grammar::State;
@@ -10,7 +10,7 @@ ghost use Rattle.grammar.specs.Machine.{numbersOf, spaced, grown, moved};
 
 const SPACE: u8 = b' ';
 
-// Each number is at most this.
+// The largest number.
 const LARGEST: u64 = 4294967295;
 
 fn is_digit(byte: u8) -> bool
@@ -22,7 +22,7 @@ fn is_digit(byte: u8) -> bool
     byte <= 57
 }
 
-// A space after a number: document 01's calls have four numbers at most.
+// A space after a number. No call has more than four numbers.
 fn space(letter: u8, kept: Kept, value: u32) -> State
     ensures { λ r. ⌜ r ≡ spaced letter kept value ⌝ }
 {
@@ -88,7 +88,7 @@ pub fn advance(state: State, byte: u8) -> State
     }
 }
 
-// The call of a letter and its numbers.
+// The call that a letter and its numbers make.
 pub fn call(letter: u8, kept: Kept, last: u32) -> Parsed
     ensures { λ r. ⌜ readingOf r ≡ called letter (numbersOf kept ++ last ∷ []) ⌝ }
 {

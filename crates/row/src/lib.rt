@@ -1,4 +1,4 @@
-// What a quick pass collects of a bucket, of a row of four slots, and of a turn of four rows.
+// What the quick pass collects of a bucket, of a row of four slots, and of a turn of four rows.
 use quick_laws::Quick;
 use quick_laws::Rows;
 use words::Slot;
@@ -7,12 +7,13 @@ ghost use mathlib.Core.Path.{_≡_};
 ghost use Prim.Native.Nat.{_+_, _≤_};
 ghost use lib.ListN.{length};
 ghost use Rattle.words.specs.Slot.{content};
-ghost use Rattle.quick_laws.specs.Quick.{over, quickBucket};
-ghost use Rattle.quick_laws.specs.Rows.{opened, row, ending, seam, turn};
+ghost use Rattle.quick_laws.specs.Quick.{mask, quickBucket};
+ghost use Rattle.quick_laws.specs.Rows.{openRow, quickRow, endAt, seamAt, quickTurn};
 
-// All bits if x is more than y, both taken as signed: four such comparisons are one operation of the machine, unsigned ones more.
+// All bits if x is more than y, both taken as signed words, else none. The machine compares four signed words in one operation, and needs
+// more for unsigned ones.
 fn mask(x: u32, y: u32) -> u32
-    ensures { λ r. ⌜ r ≡ over x y ⌝ }
+    ensures { λ r. ⌜ r ≡ mask x y ⌝ }
 {
     if 2147483648 ^ y < 2147483648 ^ x {
         4294967295
@@ -21,7 +22,7 @@ fn mask(x: u32, y: u32) -> u32
     }
 }
 
-// A bucket whose weight is to be `least` or more and, where it is longer than 1, at most `most` above that.
+// A bucket whose weight must be `least` or more and, if it is wider than 1, at most `most` above that.
 pub fn quick_bucket(t: Quick, b: Slot, least: u32, most: u32) -> Quick
     ensures { λ r. ⌜ r ≡ quickBucket least most t (content b) ⌝ }
 {
@@ -39,10 +40,10 @@ pub fn quick_bucket(t: Quick, b: Slot, least: u32, most: u32) -> Quick
     }
 }
 
-// A row is to start where it does. An end at most doubles from bucket to bucket, so that with each row's first offset within reach none
-// of its ends wraps.
+// Each row takes its first offset as its start; the seam test links the rows. An end at most doubles from bucket to bucket, so none of a
+// row's ends wraps if its first offset is within reach.
 fn open_row(t: Quick, offset: u32) -> Quick
-    ensures { λ r. ⌜ r ≡ opened t offset ⌝ }
+    ensures { λ r. ⌜ r ≡ openRow t offset ⌝ }
 {
     Quick {
         end: offset,
@@ -55,7 +56,7 @@ fn open_row(t: Quick, offset: u32) -> Quick
 // The four slots from word `at` on.
 fn quick_row(t: Quick, rest: &[u32], at: usize, least: u32, most: u32) -> Quick
     requires { ⌜ at + 12 ≤ length (now rest) ⌝ }
-    ensures { λ r. ⌜ r ≡ row least most t (now (rest .entry)) at ⌝ }
+    ensures { λ r. ⌜ r ≡ quickRow least most t (now (rest .entry)) at ⌝ }
 {
     let none = open_row(t, rest[at]);
     let one = quick_bucket(none, slot_from(rest, at), least, most);
@@ -67,23 +68,23 @@ fn quick_row(t: Quick, rest: &[u32], at: usize, least: u32, most: u32) -> Quick
 // Where the bucket at word `at` ends.
 fn end_at(rest: &[u32], at: usize) -> u32
     requires { ⌜ at + 2 ≤ length (now rest) ⌝ }
-    ensures { λ r. ⌜ r ≡ ending (now (rest .entry)) at ⌝ }
+    ensures { λ r. ⌜ r ≡ endAt (now (rest .entry)) at ⌝ }
 {
     std::num::wrapping_add_u32(rest[at], rest[at + 1])
 }
 
-// No bit where the bucket at word `at` ends at the offset of the next.
+// 0 if the bucket at word `at` ends at the offset of the next.
 fn seam_at(rest: &[u32], at: usize) -> u32
     requires { ⌜ at + 4 ≤ length (now rest) ⌝ }
-    ensures { λ r. ⌜ r ≡ seam (now (rest .entry)) at ⌝ }
+    ensures { λ r. ⌜ r ≡ seamAt (now (rest .entry)) at ⌝ }
 {
     end_at(rest, at) ^ rest[at + 3]
 }
 
-// Four rows of four slots: the compiler reads a row's words whole and works on the four rows at once.
+// A turn: four rows of four slots. The compiler reads a row's words whole and works on the four rows at once.
 pub fn quick_turn(t: Rows, rest: &[u32], least: u32, most: u32) -> Rows
     requires { ⌜ 48 ≤ length (now rest) ⌝ }
-    ensures { λ r. ⌜ r ≡ turn least most t (now (rest .entry)) ⌝ }
+    ensures { λ r. ⌜ r ≡ quickTurn least most t (now (rest .entry)) ⌝ }
 {
     let one = t.one;
     let two = t.two;

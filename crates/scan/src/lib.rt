@@ -1,4 +1,4 @@
-// Reading one level of a histogram, on its part of the words: the bucket that covers an offset, and the sum from an opening.
+// Reading one level of a histogram, on its part of the words: the bucket that spans an offset, and the sum from an opening.
 use words::Slot;
 use words::long;
 use words::slot_at;
@@ -8,9 +8,10 @@ ghost use mathlib.Core.Bool.{cond};
 ghost use Prim.Native.Nat.{_+_, _*_, _^_, _<_, _≤_};
 ghost use lib.Dec.{leb};
 ghost use lib.ListN.{length, getD};
+ghost use Rattle.shape.specs.Layout.{slotStart};
 ghost use Rattle.model.specs.Words.{decodeLevel};
 ghost use Rattle.model.specs.Block.{sumFrom};
-ghost use Rattle.laws.specs.Place.{place, EndsRise};
+ghost use Rattle.laws.specs.SlotOf.{slotOf, EndsRise};
 ghost use Rattle.scan.specs.Search.{isPast, Spans};
 
 // Where a bucket ends.
@@ -20,9 +21,9 @@ fn end(b: Slot) -> u64
     long(b.offset) + long(b.width)
 }
 
-// Whether there is a slot `step` below `high`, and it ends past offset x.
+// Whether there is a slot `step` below `high`, and its bucket ends after offset x.
 fn is_past(level: &[u32], high: usize, step: usize, x: u32) -> bool
-    requires { ⌜ (0 < step) × (2 + 3 * high ≤ length (now level)) ⌝ }
+    requires { ⌜ (0 < step) × (slotStart high ≤ length (now level)) ⌝ }
     ensures { λ r. ⌜ r ≡ isPast (now (level .entry)) high step x ⌝ }
 {
     if high < step {
@@ -31,15 +32,15 @@ fn is_past(level: &[u32], high: usize, step: usize, x: u32) -> bool
     long(x) < end(slot_at(level, high - step))
 }
 
-// Slots before `low` end at or before an offset, those from `high` on end past it.
+// The buckets of the slots before `low` end at or before an offset, those of the slots from `high` on end after it.
 struct Span {
     low: usize,
     high: usize,
 }
 
-// A span for offset x, looked for from the upper end in steps that double: most offsets are near it.
+// A span for offset x. It is searched from the upper end, in steps that double, because most offsets are near that end.
 fn gallop(level: &[u32], x: u32) -> Span
-    requires { ⌜ EndsRise 0 (decodeLevel (now level) .buckets) × (2 + 3 * getD (now level) 0 0 ≤ length (now level)) ⌝ }
+    requires { ⌜ EndsRise 0 (decodeLevel (now level) .buckets) × (slotStart (getD (now level) 0 0) ≤ length (now level)) ⌝ }
     ensures { λ r. ⌜ Spans x (now (level .entry)) r ⌝ }
 {
     let mut high = wide(level[0]);
@@ -57,11 +58,10 @@ fn gallop(level: &[u32], x: u32) -> Span
     }
 }
 
-// How many leading buckets end at or before offset x: the slot of the first that ends past it, or the count. The span is halved until
-// one place is left.
+// How many leading buckets end at or before offset x: the slot of the first that ends after it, or the count. Bisects the span.
 pub fn find(level: &[u32], x: u32) -> usize
-    requires { ⌜ (2 + 3 * getD (now level) 0 0 ≤ length (now level)) × EndsRise 0 (decodeLevel (now level) .buckets) ⌝ }
-    ensures { λ r. ⌜ r ≡ place x (decodeLevel (now (level .entry)) .buckets) ⌝ }
+    requires { ⌜ (slotStart (getD (now level) 0 0) ≤ length (now level)) × EndsRise 0 (decodeLevel (now level) .buckets) ⌝ }
+    ensures { λ r. ⌜ r ≡ slotOf x (decodeLevel (now (level .entry)) .buckets) ⌝ }
 {
     let span = gallop(level, x);
     let mut low = span.low;
@@ -84,9 +84,9 @@ fn counted(b: Slot, a: u32) -> u64
     if a <= b.offset { b.weight as u64 } else { 0 }
 }
 
-// The weights of the buckets whose offset is at least a.
+// The sum of the weights of the buckets that start at a or later.
 pub fn sum_from(level: &[u32], a: u32) -> u64
-    requires { ⌜ (2 + 3 * getD (now level) 0 0 ≤ length (now level)) × (getD (now level) 0 0 ≤ 1024) ⌝ }
+    requires { ⌜ (slotStart (getD (now level) 0 0) ≤ length (now level)) × (getD (now level) 0 0 ≤ 1024) ⌝ }
     ensures { λ r. ⌜ r ≡ sumFrom a (decodeLevel (now (level .entry)) .buckets) ⌝ }
 {
     let count = wide(level[0]);

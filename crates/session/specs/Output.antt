@@ -1,4 +1,4 @@
--- The bench program byte by byte writes what the protocol says, whatever parts the input comes in. Assumes nothing.
+-- The bench program, read byte by byte, writes what the protocol says, in whatever parts the input comes. Assumes nothing.
 use mathlib.Core.Bool.{Bool, true, false, cond}
 use mathlib.Core.List.{List, [], _∷_, _++_, foldl, foldl-append, append-nil, append-assoc}
 use mathlib.Core.Logic.{⊎-elim}
@@ -7,7 +7,7 @@ use Prim.Native.Nat.{ℕ}
 use lib.Dec.{eqb}
 use borrow.Author.Tests.{eq-eqb, ne-eqb}
 use Rattle.model.specs.Words.{join}
-use Rattle.laws.specs.Cases.{eq-or-ne}
+use Rattle.laws.specs.Cond.{eq-or-ne}
 use Rattle.grammar.specs.Grammar.{grammar}
 use Rattle.lines.specs.Bytes.{started, stepped, read-line}
 use Rattle.lent.specs.Lent.{afterLine}
@@ -25,7 +25,7 @@ nonEmpty (byte ∷ bytes) = true
 abbrev midLine : List ℕ → List ℕ → ℕ → List ℕ → Bench
 midLine bytes words lent out = record { line = foldl stepped started bytes; begun = nonEmpty bytes; words = words; lent = lent; out = out }
 
--- the bytes of a line that has begun, in front of what follows
+-- the bytes of a line that has begun, put before the lines that follow
 abbrev withBytes : List ℕ → List (List ℕ) → List (List ℕ)
 withBytes [] lines = lines
 withBytes (byte ∷ bytes) lines = withByte byte (withBytes bytes lines)
@@ -58,7 +58,7 @@ module _ (bytes words : List ℕ) (lent : ℕ) (out : List ℕ) where
   unfolding addByte
   line-more byte = rw (foldl-append stepped started bytes (byte ∷ []), more-non-empty bytes byte)
 
--- the lines from a newline, and from any other byte on
+-- the lines of an input that starts with a newline, and of one that starts with another byte
 module _ (byte : ℕ) (bytes input : List ℕ) where
   newline-lines : byte ≡ newline → withBytes bytes (linesOf (byte ∷ input)) ≡ bytes ∷ linesOf input
   newline-lines e = rw (eq-eqb byte newline e) (front-line bytes (linesOf input))
@@ -66,7 +66,7 @@ module _ (byte : ℕ) (bytes input : List ℕ) where
   other-lines : (byte ≡ newline → ⊥) → withBytes bytes (linesOf (byte ∷ input)) ≡ withBytes (bytes ++ byte ∷ []) (linesOf input)
   other-lines e = rw (ne-eqb byte newline e) (sym (front-byte bytes byte (linesOf input)))
 
--- the program writes what is right, from any place on, with this input to come
+-- from any state on, with this input to come, the program writes what the protocol says
 abbrev Right : List ℕ → Type 0
 Right input =
     (bytes words : List ℕ) (lent : ℕ) (out : List ℕ)
@@ -107,19 +107,19 @@ right (byte ∷ input) = λ bytes words lent out.
     let rest = right input in
     ⊎-elim (right-newline byte input rest bytes words lent out) (right-other byte input rest bytes words lent out) (eq-or-ne byte newline)
 
--- what waits at the end is the protocol's output
+-- the bytes that wait at the end are the output of the protocol
 pub session-output : (input : List ℕ) → endInput (foldl feedByte fresh input) .out ≡ output input
 unfolding fresh output
 session-output input = right input [] zeroBuffer bufferWords []
 
--- a line is answered where its newline is read: no later byte is waited for
+-- a line is answered when its newline has been read; no later byte is needed
 pub line-output : (input : List ℕ) → foldl feedByte fresh (input ++ newline ∷ []) .out ≡ output (input ++ newline ∷ [])
 unfolding endLine
 line-output input = rw (← session-output (input ++ newline ∷ []), foldl-append feedByte fresh input (newline ∷ []))
 
 -- ---- the input in parts
 
--- the same with bytes in front of those that wait
+-- more bytes before those that wait
 behind : List ℕ → Bench → Bench
 behind front b = record { line = b .line; begun = b .begun; words = b .words; lent = b .lent; out = front ++ b .out }
 
@@ -157,6 +157,6 @@ parts-whole b (part ∷ parts) =
     ∙ ap (λ (x : Bench). endInput (foldl feedByte x (join parts)) .out) kept
     ∙ ap (λ (x : Bench). endInput x .out) (sym (foldl-append feedByte b part (join parts)))
 
--- the input in any parts: what is written is the protocol's output
+-- in whatever parts the input comes, what is written is the output of the protocol
 pub parts-output : (parts : List (List ℕ)) → inParts fresh parts ≡ output (join parts)
 parts-output parts = parts-whole fresh parts ∙ session-output (join parts)

@@ -1,11 +1,11 @@
--- A reader's answer and its values stand for each other. Assumes nothing.
+-- The reader's answer and its values determine each other. Assumes nothing.
 use mathlib.Core.Bool.{Bool, true, false, cond}
 use mathlib.Core.List.{List, [], _∷_, map}
 use mathlib.Core.Path.{_≡_, refl, sym, subst}
 use Prim.Native.Nat.{ℕ}
 use Rattle.shape.specs.Limits.{Reply, accepted}
 use Rattle.model.specs.declared.Call.the-variants.{Make, Clock, Delivery, Query}
-use Rattle.laws.specs.Cases.{by-eq}
+use Rattle.laws.specs.Cond.{by-eq}
 use Rattle.grammar.specs.declared.Parsed.{Parsed}
 use Rattle.grammar.specs.declared.Parsed.the-variants.{Read, Unread}
 use Rattle.grammar.specs.Grammar.{firstField, laterFields, every, isNumber, valueOf, unread, asks, called, ordered, grammar, readingOf}
@@ -19,7 +19,7 @@ parsed-reading (Read (Delivery grade stamp volume)) = refl
 parsed-reading (Read (Query grade window)) = refl
 parsed-reading Unread = refl
 
--- an answer that is read back as itself
+-- a reply that is the same after it was turned into a call and back
 abbrev Kept : Reply → Type 0
 Kept reply = readingOf (parsedOf reply) ≡ reply
 
@@ -49,7 +49,7 @@ kept-ordered (letter ∷ []) fields = go (every isNumber fields)
     go false = kept-unread
 kept-ordered (letter ∷ b ∷ bs) fields = kept-unread
 
--- no value that the grammar gives a line is lost
+-- turning the grammar's reply into a call loses nothing
 pub reading-parsed : (line : List ℕ) → readingOf (parsedOf (grammar line)) ≡ grammar line
 unfolding grammar
 reading-parsed line = kept-ordered (firstField line) (laterFields line)

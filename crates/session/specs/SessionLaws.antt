@@ -1,4 +1,4 @@
--- What the code's calls give, put together to a step of the session. Assumes nothing.
+-- What the parts of the code give is what the definitions say. Assumes nothing.
 use mathlib.Core.Bool.{true, false}
 use mathlib.Core.List.{List, _++_, append-assoc}
 use mathlib.Core.Path.{_≡_, sym, ap, _∙_}
@@ -12,7 +12,7 @@ use Rattle.grammar.specs.Grammar.{readingOf}
 use Rattle.lines.specs.declared.Line.{Line}
 use Rattle.lines.specs.Bytes.{started, stepped, finished}
 use Rattle.model.specs.Reply.{replyOf}
-use Rattle.text.specs.Text.{written, put}
+use Rattle.text.specs.Text.{written, stored}
 use Rattle.text.specs.TextLaws.{text-short, unread-short}
 use Rattle.lent.specs.declared.Said.{Said}
 use Rattle.lent.specs.declared.Said.the-variants as said
@@ -39,14 +39,14 @@ unfolding saidText
 said-short (said.Answer a) = text-short (replyOf a)
 said-short said.Unread = unread-short
 
--- the output behind the bytes that wait has room for a text
+-- the output after the bytes that wait has room for a text
 pub room-behind : (out : List ℕ) (used : ℕ) → used + 32 ≤ length out → 32 ≤ length (take (length out - used) (drop used out))
 room-behind out used h = rw (length-take-le (length out - used) (drop used out) (omega (arith, length-drop used out))) (omega arith)
 
--- a text put there
+-- writing a text there
 pub text-behind : (text out room last rest : List ℕ) (used added : ℕ) → used ≤ length out → 32 ≤ length room → added ≡ written text room
-    → last ≡ put text room → take (used + added) (take used out ++ (last ++ rest)) ≡ take used out ++ text
-unfolding written put
+    → last ≡ stored text room → take (used + added) (take used out ++ (last ++ rest)) ≡ take used out ++ text
+unfolding written stored
 text-behind text out room last rest used added h long a l =
     let more = drop (length text) room ++ rest in
     let test = le-ltb (length room) 32 long in

@@ -1,30 +1,30 @@
-// The bench program between its input and its output, byte by byte.
+// The bench program between its input and its output, byte by byte: SPECIFICATION 11.
 use lent::Said;
 use lines::Line;
 ghost use mathlib.Core.Path.{_≡_};
 ghost use mathlib.Core.List.{List, _++_, foldl};
 ghost use Prim.Native.Nat.{ℕ, _+_, _*_, _≤_};
 ghost use lib.ListN.{length, take};
-ghost use Rattle.text.specs.Text.{written, put};
+ghost use Rattle.text.specs.Text.{written, stored};
 ghost use Rattle.lent.specs.Said.{saidText};
 ghost use Rattle.session.specs.Protocol.{zeroBuffer};
 ghost use Rattle.session.specs.Session.{fresh, endLine, feedByte, endInput, writtenOut, benchOf};
 
-// What lies between two bytes of the input. The buffer of words and the bytes of the output are lent beside it.
+// The state between two bytes of the input. The buffer of words and the bytes of the output are lent beside it.
 pub struct Session {
-    // The line as far as it is read, and whether it has a byte.
+    // The line as far as it has been read, and whether it has a byte.
     line: Line,
     begun: bool,
     // How many words a call is lent.
     lent: usize,
-    // How many bytes at the front of the output wait to be written. What stands behind them is left open.
+    // How many bytes at the front of the output wait to be written. The bytes after them are left open.
     pub used: usize,
 }
 
-// Spells what is said at the front of the buffer, and gives how long it is.
+// Writes the line of an answer to the front of the buffer. Returns its length.
 fn spell(said: Said, out: &mut [u8]) -> usize
     ensures { λ r. ⌜ r ≡ written (saidText said) (now (out .entry)) ⌝ }
-    ensures { λ _. ⌜ now (out .exit) ≡ put (saidText said) (now (out .entry)) ⌝ }
+    ensures { λ _. ⌜ now (out .exit) ≡ stored (saidText said) (now (out .entry)) ⌝ }
 {
     match said {
         Said::Answer(answer) => text::answer(answer, out),
@@ -32,7 +32,7 @@ fn spell(said: Said, out: &mut [u8]) -> usize
     }
 }
 
-// Spells what is said behind the bytes that wait, and gives how many wait then.
+// Writes the line of an answer after the bytes that wait. Returns how many wait then.
 fn append(out: &mut [u8], used: usize, said: Said) -> usize
     requires { ⌜ used + 32 ≤ length (now out) ⌝ }
     ensures { λ r. ⌜ take r (now (out .exit)) ≡ take used (now (out .entry)) ++ saidText said ⌝ }
@@ -79,7 +79,7 @@ fn feed_byte(book: &mut [u32], out: &mut [u8], s: Session, byte: u8) -> Session
     }
 }
 
-// The next bytes of the input; the output has room for an answer to each.
+// The next bytes of the input. The output has room for an answer to each.
 pub fn feed(book: &mut [u32], out: &mut [u8], s: Session, bytes: &[u8]) -> Session
     requires { ⌜ (s .lent ≤ length (now book)) × (s .used + 32 * length (now bytes) ≤ length (now out)) ⌝ }
     ensures { λ r. ⌜ benchOf r (now (book .exit)) (now (out .exit)) ≡ foldl feedByte (benchOf s (now (book .entry)) (now (out .entry))) (now (bytes .entry)) ⌝ }
@@ -94,7 +94,7 @@ pub fn feed(book: &mut [u32], out: &mut [u8], s: Session, bytes: &[u8]) -> Sessi
     session
 }
 
-// The end of the input: the last line may lack its newline.
+// The end of the input. The last line may lack its newline.
 pub fn end_input(book: &mut [u32], out: &mut [u8], s: Session) -> Session
     requires { ⌜ (s .lent ≤ length (now book)) × (s .used + 32 ≤ length (now out)) ⌝ }
     ensures { λ r. ⌜ benchOf r (now (book .exit)) (now (out .exit)) ≡ endInput (benchOf s (now (book .entry)) (now (out .entry))) ⌝ }
@@ -106,7 +106,7 @@ pub fn end_input(book: &mut [u32], out: &mut [u8], s: Session) -> Session
     s
 }
 
-// Before the first byte. The buffer is as document 01 has it at the start.
+// The state before the first byte. The buffer is zero, as at the start.
 pub fn begin(book: &[u32]) -> Session
     requires { ⌜ now book ≡ zeroBuffer ⌝ }
     ensures { λ r. ⌜ ((out : List ℕ) → benchOf r (now (book .entry)) out ≡ fresh) ⌝ }
@@ -120,7 +120,7 @@ pub fn begin(book: &[u32]) -> Session
     }
 }
 
-// After what waits has been written out.
+// The state after the waiting bytes were written out.
 pub fn written_out(s: Session) -> Session
     ensures { λ r. ⌜ ((words out : List ℕ) → benchOf r words out ≡ writtenOut (benchOf s words out)) ⌝ }
     ensures { λ r. ⌜ (r .lent ≡ s .lent) × (r .used ≡ 0) ⌝ }

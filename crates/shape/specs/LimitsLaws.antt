@@ -1,4 +1,4 @@
--- What passing the tests of the limits tells. Assumes nothing.
+-- What it means to pass the tests of the limits. Assumes nothing.
 use mathlib.Core.Bool.{Bool, true, false, _&&_}
 use mathlib.Core.Path.{_≡_, refl, ap}
 use mathlib.Core.List.{List}
@@ -10,7 +10,7 @@ use Rattle.shape.specs.declared.Shape.{Shape}
 use Rattle.shape.specs.declared.Checked.the-variants.{Within, Outside}
 use Rattle.shape.specs.Limits.{Reply, between, within, shaped, checked, replyOf}
 
--- both parts of a conjunction that is true
+-- both parts of a conjunction hold if it does
 pub both : {a b : Bool} → (a && b) ≡ true → (a ≡ true) × (b ≡ true)
 both {a} {b} e = go a b e
   where
@@ -46,10 +46,10 @@ within-limits k n m g e =
       between-limits 1 g 8 (m-g .1),
     )
 
--- ---- what the constructor's answer tells
+-- ---- what the constructor's answer means
 
--- the shape whose values these are
-abbrev shapeIn : List ℕ → Shape
+-- the shape that has these values
+abbrev pub shapeIn : List ℕ → Shape
 shapeIn vs = record { k = getD vs 0 0; n = getD vs 1 0; m = getD vs 2 0; g = getD vs 3 0; last = getD vs 4 0 }
 
 module _ (k n m g : ℕ) where

@@ -3,16 +3,28 @@ ghost use mathlib.Core.Path.{_≡_};
 ghost use Rattle.shape.specs.Layout.{bookWords, blockWords, blockStart, levelWords, levelStart};
 ghost use Rattle.shape.specs.Limits.{between, replyOf, checked};
 
-// Document 01's shape. Only what `Shape::new` gives is held to the limits, and only that has document 01's lengths; every method is
-// defined on any fields.
+// The words of the book's head.
+pub const HEAD_LEN: usize = 8;
+
+// The words of a block before its levels: the totals of its two halves.
+pub const BLOCK_HEAD_LEN: usize = 2;
+
+// The words of a level before its slots: its count and its first kept offset.
+pub const LEVEL_HEAD_LEN: usize = 2;
+
+// The words of a slot.
+pub const SLOT_LEN: usize = 3;
+
+// The shape of a book: SPECIFICATION 2.2. Only what `Shape::new` gives is held to the limits, and only that has the lengths of SPECIFICATION
+// 3.6. Every method is defined on any fields.
 pub struct Shape {
     // An interval is 2 ^ k ticks.
     pub k: u8,
     // A level holds at most n buckets.
     pub n: u16,
-    // Document 01's M: levels run from 0 to m, and a half keeps at most 2 ^ m decilitres.
+    // M in the customer's paper: levels run from 0 to m, and a half takes at most 2 ^ m decilitres.
     pub m: u8,
-    // The count of grades.
+    // The number of grades.
     pub g: u8,
     // The coarsest level that the book keeps.
     pub last: u8,
@@ -75,38 +87,39 @@ impl Shape {
         })
     }
 
-    // The words of one level.
+    // The words of one level: SPECIFICATION 3.6, as for the methods below.
     pub fn level_len(self) -> usize
         ensures { λ r. ⌜ r ≡ levelWords self ⌝ }
     {
-        2 + 3 * (self.n as usize)
+        LEVEL_HEAD_LEN + SLOT_LEN * (self.n as usize)
     }
 
     // The words of one grade's block.
     pub fn block_len(self) -> usize
         ensures { λ r. ⌜ r ≡ blockWords self ⌝ }
     {
-        2 + 2 * (self.last as usize + 1) * self.level_len()
+        BLOCK_HEAD_LEN + 2 * (self.last as usize + 1) * self.level_len()
     }
 
     // The words of the whole book.
     pub fn book_len(self) -> usize
         ensures { λ r. ⌜ r ≡ bookWords self ⌝ }
     {
-        8 + (self.g as usize) * self.block_len()
+        HEAD_LEN + (self.g as usize) * self.block_len()
     }
 
     // Where a grade's block starts in the book.
     pub fn block_start(self, grade: u32) -> usize
         ensures { λ r. ⌜ r ≡ blockStart self grade ⌝ }
     {
-        8 + (grade as usize) * self.block_len()
+        HEAD_LEN + (grade as usize) * self.block_len()
     }
 
-    // Where a level of the half of a parity starts in the block.
+    // Where a level starts in the block, in the half of this parity.
     pub fn level_start(self, parity: u8, level: u8) -> usize
         ensures { λ r. ⌜ r ≡ levelStart self parity level ⌝ }
     {
-        2 + ((parity as usize) * (self.last as usize + 1) + (level as usize)) * self.level_len()
+        BLOCK_HEAD_LEN
+            + ((parity as usize) * (self.last as usize + 1) + (level as usize)) * self.level_len()
     }
 }

@@ -1,4 +1,4 @@
--- The test that all words are zero, by the bits of four parts and of the words after them joined. Assumes nothing.
+-- The test that all words are zero, by joining the bits of four parts and of the words after them. Assumes nothing.
 use mathlib.Core.Bool.{Bool, true, false, _&&_, and-assoc}
 use mathlib.Core.List.{List, [], _∷_}
 use mathlib.Core.Path.{_≡_, refl, sym, ap, _∙_}
@@ -22,7 +22,7 @@ regroup true true true s t = refl
 regroup true true false true t = refl
 regroup true true false false t = refl
 
--- a word of each of two lists is joined
+-- joining a word of each of two lists
 zeros-pair : (low high : List ℕ) (all j : ℕ) → j < length low → j < length high
     → (eqb (bitOr (bitOr all (getD low j 0)) (getD high j 0)) 0 && (zeros (drop (j + 1) low) && zeros (drop (j + 1) high)))
     ≡ (eqb all 0 && (zeros (drop j low) && zeros (drop j high)))
@@ -46,7 +46,7 @@ swapped true true false = refl
 swapped true false true = refl
 swapped true false false = refl
 
--- a word of each of four lists is joined
+-- joining a word of each of four lists
 pub zeros-four : (a b c d : List ℕ) (all j : ℕ) → j < length a → j < length b → j < length c → j < length d
     → (eqb (bitOr (bitOr (bitOr (bitOr all (getD a j 0)) (getD b j 0)) (getD c j 0)) (getD d j 0)) 0
     && ((zeros (drop (j + 1) a) && zeros (drop (j + 1) b)) && (zeros (drop (j + 1) c) && zeros (drop (j + 1) d))))
@@ -62,11 +62,11 @@ zeros-four a b c d all j ha hb hc hd =
     ∙ ap (λ (t : Bool). t && here) (zeros-pair a b all j ha hb)
     ∙ and-assoc (eqb all 0) (zeros (drop j a) && zeros (drop j b)) here
 
--- one word more is joined
+-- joining one more word
 pub zeros-one : (ws : List ℕ) (all j : ℕ) → j < length ws → (eqb (bitOr all (getD ws j 0)) 0 && zeros (drop (j + 1) ws)) ≡ (eqb all 0 && zeros (drop j ws))
 zeros-one ws all j h = rw (or-tested all (getD ws j 0), zeros-step ws j h) (and-assoc (eqb all 0) (eqb (getD ws j 0) 0) (zeros (drop (j + 1) ws)))
 
--- four parts of n words from `from` on, the fourth with all words to the end
+-- four parts of n words from `from` on; the fourth has all words to the end
 module _ (ws : List ℕ) (from n all rest : ℕ) where
   abbrev two : ℕ
   two = from + n

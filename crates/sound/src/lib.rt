@@ -1,5 +1,7 @@
-// Whether the words of one level are sound.
+// Whether the words of one level are sound: SPECIFICATION 7.3.
 use quick::sound_buckets;
+use shape::LEVEL_HEAD_LEN;
+use shape::SLOT_LEN;
 use shape::Shape;
 use words::both;
 use words::implied;
@@ -12,7 +14,7 @@ ghost use lib.ListN.{length, drop};
 ghost use Rattle.shape.specs.Layout.{levelWords};
 ghost use Rattle.model.specs.Sound.{zeros, soundLevel};
 
-// The bits of the words of a, b and c and of as many of d, joined: four streams at once, so that the compiler takes eight vectors a turn.
+// The joined bits of the words of a, b and c and of as many words of d. With four streams at once the compiler takes eight vectors a turn.
 fn joined(a: &[u32], b: &[u32], c: &[u32], d: &[u32]) -> u32
     requires { ⌜ (length (now b) ≡ length (now a)) × (length (now c) ≡ length (now a)) × (length (now a) ≤ length (now d)) ⌝ }
     ensures { λ r. ⌜ (eqb r 0 && zeros (drop (length (now (a .entry))) (now (d .entry))))
@@ -27,7 +29,7 @@ fn joined(a: &[u32], b: &[u32], c: &[u32], d: &[u32]) -> u32
     all
 }
 
-// The bits of the words from `from` on, joined.
+// The joined bits of the words from `from` on.
 fn bits_from(level: &[u32], from: usize) -> u32
     ensures { λ r. ⌜ eqb r 0 ≡ zeros (drop from (now (level .entry))) ⌝ }
 {
@@ -40,8 +42,8 @@ fn bits_from(level: &[u32], from: usize) -> u32
     all
 }
 
-// Whether all words from `from` on are zero: their bits are collected, and tested once. After four parts of the same length at most
-// three words are left.
+// Whether all words from `from` on are zero. Their bits are joined and tested once. After four parts of equal length at most three words are
+// left.
 fn is_zero(level: &[u32], from: usize) -> bool
     ensures { λ r. ⌜ r ≡ zeros (drop from (now (level .entry))) ⌝ }
 {
@@ -73,7 +75,7 @@ pub fn sound_level(level: &[u32], s: Shape, i: u8, total: u64) -> bool
     if n < count {
         return false;
     }
-    let unused = is_zero(level, 2 + 3 * count);
+    let unused = is_zero(level, LEVEL_HEAD_LEN + SLOT_LEN * count);
     let right = sound_buckets(level, count, s.k, i, total);
     both(unused, both(right, implied(0 < first, count == n)))
 }

@@ -5,6 +5,6 @@ use lib.Pow.{pow-mono, shr-lt}
 use Rattle.shape.specs.declared.Shape.{Shape}
 use Rattle.model.specs.Block.{interval}
 
--- an interval's number leaves room for the next one's
+-- the number of an interval leaves room for the next
 pub interval-small : (s : Shape) (t : ℕ) → 2 ≤ s .k → t < 2 ^ 32 → interval s t < 2 ^ 30
 interval-small s t low h = shr-lt {n = t} 30 (s .k) (omega (arith, pow-mono {i = 32} {j = 30 + s .k} (omega arith)))

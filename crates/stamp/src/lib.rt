@@ -1,4 +1,4 @@
-// A stamp's interval, its offset there, and the parity of the half that serves an interval.
+// The interval of a stamp and its offset there (SPECIFICATION 2.3), and the parity of the half that serves an interval.
 use shape::Shape;
 use words::power;
 ghost use mathlib.Core.Path.{_≡_};

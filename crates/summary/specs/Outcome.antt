@@ -1,5 +1,5 @@
--- What each call answers and leaves, by the number of its first refusal; and the words that make and clock write. Rests on the laws of
--- the refusals and of the book's parts.
+-- What each call answers and leaves, by the number of its first refusal; and the words that make and clock write. Rests on the laws of the
+-- refusals and of the book's parts.
 use mathlib.Core.Bool.{true, false}
 use mathlib.Core.Path.{_≡_, refl, sym, ap, _∙_}
 use mathlib.Core.List.{List, [], _++_}
@@ -10,7 +10,7 @@ use lib.Seq.{drop-append-add, drop-drop}
 use borrow.Author.Tests.{eq-eqb, ne-eqb}
 use Rattle.shape.specs.declared.Shape.{Shape}
 use Rattle.shape.specs.Limits.{refused, accepted, within, shaped}
-use Rattle.shape.specs.Layout.{bookWords, blockWords, blockStart}
+use Rattle.shape.specs.Layout.{headLen, bookWords, blockWords, blockStart}
 use Rattle.model.specs.declared.Call.{Call}
 use Rattle.model.specs.declared.Call.the-variants.{Make, Clock, Delivery, Query}
 use Rattle.model.specs.declared.Refusal.{Refusal}
@@ -22,14 +22,15 @@ use Rattle.model.specs.Sound.{soundBlock}
 use Rattle.model.specs.Calls.{blockAt, refusals, bookView, outcomeOf, accept, perform, made, clocked, delivered}
 use Rattle.model.specs.Reply.{numberOf, replyOf}
 use Rattle.laws.specs.Proper.{Proper}
-use Rattle.laws.specs.Halves.{total-decode}
+use Rattle.laws.specs.HalfWrites.{total-decode}
 use Rattle.laws.specs.BookWords.{limits-within, soundHead-limits, length-blockPart}
 use Rattle.laws.specs.Parts.{allFrom-elim, upFrom-cong, replicate-upFrom}
 use Rattle.laws.specs.Refusals.{numberOf-pos, settle-accepted, settle-refused, AcceptedClock, accepted-clock, AcceptedDelivery, accepted-delivery, AcceptedQuery, accepted-query}
-use Rattle.judge.specs.Judge.{firstRefusal, Open, open-size, open-proper}
+use Rattle.book.specs.Judgement.{firstRefusal}
+use Rattle.judge.specs.Judge.{Open, open-size, open-proper}
 use Rattle.book.specs.Part.{InBook}
-use Rattle.sweep.specs.Sweeps.{AllSound, emptied, advanced}
-use Rattle.fill.specs.Fill.{Takes}
+use Rattle.sweep.specs.Sweeps.{AllSound, cleared, advanced}
+use Rattle.fill.specs.Fill.{Deliverable}
 
 module _ (ws : List ℕ) (call : Call) where
   -- a refused call answers the number and changes nothing
@@ -39,7 +40,7 @@ module _ (ws : List ℕ) (call : Call) where
       sym (settle-refused (refusals (bookView ws) call) ws (accept ws call) (λ e. numberOf-pos r (sym h ∙ e))
       ∙ ap (λ (n : ℕ). outcomeOf (refused n) ws) h)
 
-  pub accepted-outcome : firstRefusal ws call ≡ 0 → perform ws call ≡ accept ws call
+  accepted-outcome : firstRefusal ws call ≡ 0 → perform ws call ≡ accept ws call
   unfolding perform
   accepted-outcome h = settle-accepted (refusals (bookView ws) call) ws (accept ws call) h
 
@@ -51,38 +52,38 @@ module _ (ws : List ℕ) (k n m g : ℕ) where
   make-outside h = rw h
 
   module _ (inside : within k n m g ≡ true) where
-    pub make-misfit : (length ws ≡ bookWords (shaped k n m g) → ⊥) → firstRefusal ws (Make k n m g) ≡ 2
+    make-misfit : (length ws ≡ bookWords (shaped k n m g) → ⊥) → firstRefusal ws (Make k n m g) ≡ 2
     unfolding refusals bookView
     make-misfit h = rw (inside, ne-eqb (length ws) (bookWords (shaped k n m g)) h)
 
-    pub make-fits : length ws ≡ bookWords (shaped k n m g) → firstRefusal ws (Make k n m g) ≡ 0
+    make-fits : length ws ≡ bookWords (shaped k n m g) → firstRefusal ws (Make k n m g) ≡ 0
     unfolding refusals bookView
     make-fits h = rw (inside, eq-eqb (length ws) (bookWords (shaped k n m g)) h)
 
--- ---- the head written anew
+-- ---- another head
 
 module _ (s : Shape) (clock : ℕ) (ws : List ℕ) where
   -- the words with another head
-  abbrev pub headed : List ℕ
-  headed = encodeHead s clock ++ drop 8 ws
+  abbrev headed : List ℕ
+  headed = encodeHead s clock ++ drop headLen ws
 
-  pub length-headed : 8 ≤ length ws → length headed ≡ length ws
+  length-headed : headLen ≤ length ws → length headed ≡ length ws
   length-headed h = simp length-drop (omega arith)
 
-  -- the blocks stay
-  pub blockPart-headed : (grade : ℕ) → blockPart s grade headed ≡ blockPart s grade ws
+  -- the blocks are the same
+  blockPart-headed : (grade : ℕ) → blockPart s grade headed ≡ blockPart s grade ws
   unfolding blockStart
   blockPart-headed grade =
-      ap (take (blockWords s)) (drop-append-add (encodeHead s clock) (drop 8 ws) (grade * blockWords s) ∙ drop-drop (grade * blockWords s) 8 ws)
+      ap (take (blockWords s)) (drop-append-add (encodeHead s clock) (drop headLen ws) (grade * blockWords s) ∙ drop-drop (grade * blockWords s) headLen ws)
 
-pub book-long : (s : Shape) (ws : List ℕ) → length ws ≡ bookWords s → 8 ≤ length ws
+pub book-long : (s : Shape) (ws : List ℕ) → length ws ≡ bookWords s → headLen ≤ length ws
 unfolding bookWords
 book-long s ws h = omega arith
 
--- an accepted make's words
-pub made-swept : (s : Shape) (ws : List ℕ) → take 8 (headed s 0 ws) ++ join (upFrom (emptied s) 0 (s .g)) ≡ made s
+-- the words of an accepted make
+made-swept : (s : Shape) (ws : List ℕ) → take headLen (headed s 0 ws) ++ join (upFrom (cleared s) 0 (s .g)) ≡ made s
 unfolding made
-made-swept s ws = ap (λ (z : List (List ℕ)). encodeHead s 0 ++ join z) (sym (replicate-upFrom (emptied s 0) 0 (s .g)))
+made-swept s ws = ap (λ (z : List (List ℕ)). encodeHead s 0 ++ join z) (sym (replicate-upFrom (cleared s 0) 0 (s .g)))
 
 -- ---- clock
 
@@ -114,8 +115,8 @@ module _ (ws : List ℕ) (s : Shape) (clock to : ℕ) (o : Open ws s clock) (h :
       (ap (λ (c : ℕ). encodeBlock s (advance s c to (decodeBlock s (blockPart s grade ws)))) (o .now)
       ∙ ap (λ (z : Shape). encodeBlock s (advance s (clockOf ws) to (decodeBlock z (blockPart z grade ws)))) (o .same))
 
-  -- an accepted clock's words
-  pub clocked-swept : take 8 (headed s to ws) ++ join (upFrom (advanced s clock to (headed s to ws)) 0 (s .g)) ≡ clocked (shapeOf ws) to ws
+  -- the words of an accepted clock
+  clocked-swept : take headLen (headed s to ws) ++ join (upFrom (advanced s clock to (headed s to ws)) 0 (s .g)) ≡ clocked (shapeOf ws) to ws
   unfolding clocked
   clocked-swept =
       ap (λ (z : List (List ℕ)). encodeHead s to ++ join z)
@@ -134,9 +135,9 @@ module _ (ws : List ℕ) (s : Shape) (grade stamp volume : ℕ) (same : s ≡ sh
   delivery-inside =
       rw same (record { proper = record { limits = soundHead-limits ws (facts-d .head); last = refl }; size = facts-d .size; inside = facts-d .inside })
 
-  pub delivery-takes : Takes s stamp volume (blockPart s grade ws)
+  pub delivery-deliverable : Deliverable s stamp volume (blockPart s grade ws)
   unfolding bookView
-  delivery-takes =
+  delivery-deliverable =
       let b = delivery-inside in
       record {
         whole = record { proper = b .proper; size = length-blockPart s grade (b .inside) ws (b .size); sound = rw same (facts-d .sound) };
@@ -144,7 +145,7 @@ module _ (ws : List ℕ) (s : Shape) (grade stamp volume : ℕ) (same : s ≡ sh
         room = rw (same, ← total-decode (shapeOf ws) (interval (shapeOf ws) stamp) (blockPart (shapeOf ws) grade ws)) (facts-d .room);
       }
 
-  pub delivered-words : withBlock s grade (encodeBlock s (deliver s stamp volume (decodeBlock s (blockPart s grade ws)))) ws ≡ delivered (shapeOf ws) grade stamp volume ws
+  delivered-words : withBlock s grade (encodeBlock s (deliver s stamp volume (decodeBlock s (blockPart s grade ws)))) ws ≡ delivered (shapeOf ws) grade stamp volume ws
   unfolding delivered
   delivered-words = rw same
 
@@ -168,7 +169,7 @@ module _ (ws : List ℕ) (s : Shape) (clock grade window : ℕ) (o : Open ws s c
 
 -- ---- the outcomes of accepted calls
 
--- a shape within its limits is the one that its numbers make
+-- a shape within its limits is the one made of its numbers
 shaped-proper : (s : Shape) → Proper s → shaped (s .k) (s .n) (s .m) (s .g) ≡ s
 shaped-proper s p = ap (λ (z : ℕ). record { k = s .k; n = s .n; m = s .m; g = s .g; last = z }) (sym (p .last))
 
@@ -182,7 +183,7 @@ module _ (s : Shape) (p : Proper s) (ws : List ℕ) where
       (make-misfit ws (s .k) (s .n) (s .m) (s .g) inside (λ e. h (e ∙ ap bookWords (shaped-proper s p))))
 
   pub made-outcome : length ws ≡ bookWords s
-      → outcomeOf (replyOf Done) (take 8 (headed s 0 ws) ++ join (upFrom (emptied s) 0 (s .g))) ≡ perform ws (Make (s .k) (s .n) (s .m) (s .g))
+      → outcomeOf (replyOf Done) (take headLen (headed s 0 ws) ++ join (upFrom (cleared s) 0 (s .g))) ≡ perform ws (Make (s .k) (s .n) (s .m) (s .g))
   unfolding replyOf
   made-outcome h =
       ap (outcomeOf (accepted [])) (made-swept s ws ∙ ap made (sym (shaped-proper s p)))
@@ -190,7 +191,7 @@ module _ (s : Shape) (p : Proper s) (ws : List ℕ) where
       (make-fits ws (s .k) (s .n) (s .m) (s .g) inside (h ∙ ap bookWords (sym (shaped-proper s p)))))
 
 pub clocked-outcome : (ws : List ℕ) (s : Shape) (clock to : ℕ) → Open ws s clock → firstRefusal ws (Clock to) ≡ 0
-    → outcomeOf (replyOf Done) (take 8 (headed s to ws) ++ join (upFrom (advanced s clock to (headed s to ws)) 0 (s .g))) ≡ perform ws (Clock to)
+    → outcomeOf (replyOf Done) (take headLen (headed s to ws) ++ join (upFrom (advanced s clock to (headed s to ws)) 0 (s .g))) ≡ perform ws (Clock to)
 unfolding replyOf
 clocked-outcome ws s clock to o h = ap (outcomeOf (accepted [])) (clocked-swept ws s clock to o h) ∙ sym (accepted-outcome ws (Clock to) h)
 

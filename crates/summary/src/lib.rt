@@ -1,5 +1,5 @@
-// The calls on a whole book: make, clock, delivery and question. Each takes words of any length and content and any numbers; a refused call
-// leaves every word.
+// The calls on a whole book: make, clock, delivery and question (SPECIFICATION 5). Each takes words of any length and content and any
+// numbers. A refused call changes no word.
 use book::Opened;
 use book::block_at;
 use fill::deliver_block;
@@ -21,9 +21,10 @@ ghost use Rattle.model.specs.Reply.{replyOf};
 ghost use Rattle.model.specs.Calls.{outcomeOf, perform};
 ghost use Rattle.model.specs.declared.Call.the-variants as Call;
 ghost use Rattle.laws.specs.Proper.{Proper};
-ghost use Rattle.judge.specs.Judge.{firstRefusal, Open};
+ghost use Rattle.book.specs.Judgement.{firstRefusal};
+ghost use Rattle.judge.specs.Judge.{Open};
 
-// A book of a shape within its limits, if it has the length that the shape asks.
+// Makes a book of a shape within its limits, if the words are as many as it needs.
 fn make_shape(book: &mut [u32], shape: Shape) -> Answer
     requires { ⌜ Proper shape ⌝ }
     ensures { λ r. ⌜ outcomeOf (replyOf r) (now (book .exit)) ≡ perform (now (book .entry)) (Call.Make (shape .k) (shape .n) (shape .m) (shape .g)) ⌝ }
@@ -64,7 +65,7 @@ pub fn clock(book: &mut [u32], to: u32) -> Answer
     }
 }
 
-// An accepted delivery: its block alone is handed on.
+// An accepted delivery: only its block is handed on.
 fn deliver(book: &mut [u32], shape: Shape, grade: u32, stamp: u32, volume: u32) -> Answer
     requires { ⌜ (shape ≡ shapeOf (now book)) × (firstRefusal (now book) (Call.Delivery grade stamp volume) ≡ 0) ⌝ }
     ensures { λ r. ⌜ outcomeOf (replyOf r) (now (book .exit)) ≡ perform (now (book .entry)) (Call.Delivery grade stamp volume) ⌝ }
@@ -84,7 +85,7 @@ pub fn delivery(book: &mut [u32], grade: u32, stamp: u32, volume: u32) -> Answer
     }
 }
 
-// The first stamp of a window, 0 where the window exceeds the clock.
+// The first stamp of a window, 0 if the window exceeds the clock.
 fn opening(clock: u32, window: u32) -> u32
     ensures { λ r. ⌜ r ≡ opening clock window ⌝ }
 {
@@ -94,7 +95,7 @@ fn opening(clock: u32, window: u32) -> u32
     clock - window
 }
 
-// An accepted question: its block alone is handed on.
+// An accepted question: only its block is handed on.
 fn ask(book: &[u32], shape: Shape, clock: u32, grade: u32, window: u32) -> Answer
     requires { ⌜ Open (now book) shape clock × (firstRefusal (now book) (Call.Query grade window) ≡ 0) ⌝ }
     ensures { λ r. ⌜ outcomeOf (replyOf r) (now (book .entry)) ≡ perform (now (book .entry)) (Call.Query grade window) ⌝ }
@@ -112,7 +113,7 @@ pub fn query(book: &[u32], grade: u32, window: u32) -> Answer
     }
 }
 
-// Any call: one step of a run.
+// Any call: one step of a run (SPECIFICATION 9.1).
 pub fn perform(book: &mut [u32], call: Call) -> Answer
     ensures { λ r. ⌜ outcomeOf (replyOf r) (now (book .exit)) ≡ perform (now (book .entry)) call ⌝ }
 {

@@ -1,4 +1,4 @@
--- What the loops over the grades are asked and leave. Rests on the laws of a swept book.
+-- What the loops over the grades require and leave. Rests on the laws of a swept book.
 use mathlib.Core.Bool.{true}
 use mathlib.Core.Path.{_≡_}
 use mathlib.Core.List.{List}
@@ -11,7 +11,7 @@ use Rattle.model.specs.Words.{blockPart, decodeBlock, encodeBlock}
 use Rattle.model.specs.Sound.{soundBlock}
 use Rattle.laws.specs.Proper.{Proper}
 use Rattle.laws.specs.BlockWords.{soundBlock-decode}
-use Rattle.laws.specs.BlockKept.{empty-half, advance-both, both-size}
+use Rattle.laws.specs.BlockSound.{empty-half, advance-both, both-size}
 
 -- a book whose blocks are sound
 pub record AllSound (s : Shape) (ws : List ℕ) : Type 0 where
@@ -20,11 +20,11 @@ pub record AllSound (s : Shape) (ws : List ℕ) : Type 0 where
   pub sound : (grade : ℕ) → grade < s .g → soundBlock s (blockPart s grade ws) ≡ true
 
 -- the words of an empty block
-abbrev pub emptied : Shape → ℕ → List ℕ
-emptied s grade = encodeBlock s (record { even = emptyHalf s; odd = emptyHalf s })
+abbrev pub cleared : Shape → ℕ → List ℕ
+cleared s grade = encodeBlock s (record { even = emptyHalf s; odd = emptyHalf s })
 
-pub emptied-size : (s : Shape) → Proper s → (grade : ℕ) → length (emptied s grade) ≡ blockWords s
-emptied-size s p grade = both-size s p (record { even = emptyHalf s; odd = emptyHalf s }) (empty-half s p, empty-half s p)
+pub cleared-size : (s : Shape) → Proper s → (grade : ℕ) → length (cleared s grade) ≡ blockWords s
+cleared-size s p grade = both-size s p (record { even = emptyHalf s; odd = emptyHalf s }) (empty-half s p, empty-half s p)
 
 -- the words of a grade's block after a clock
 abbrev pub advanced : Shape → ℕ → ℕ → List ℕ → ℕ → List ℕ

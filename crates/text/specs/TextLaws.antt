@@ -1,4 +1,4 @@
--- Digits and texts: how long they are, how they are stored, and that digits mean their number. Assumes nothing.
+-- Digits and texts: how long they are, how they are stored, and that the digits of a number have its value. Assumes nothing.
 use mathlib.Core.Bool.{Bool, true, false, not, cond}
 use mathlib.Core.List.{List, [], _∷_, _++_}
 use mathlib.Core.Path.{_≡_, refl, sym, ap, _∙_}
@@ -15,12 +15,12 @@ use Rattle.model.specs.Reply.{numberOf, replyOf}
 use Rattle.model.specs.declared.Answer.the-variants.{Refused}
 use Rattle.model.specs.declared.Refusal.{Refusal}
 use Rattle.model.specs.declared.Refusal.the-variants.{Shape, Length, Grade, Volume, Window, Limit, Head, Ahead, Late, Back, Block, Full}
-use Rattle.laws.specs.Cases.{by-lt, and-true}
+use Rattle.laws.specs.Cond.{by-lt, and-true}
 use Rattle.grammar.specs.Grammar.{every, isDigit, valueFrom, valueOf, isDecimal}
-use Rattle.text.specs.Text.{digitsOf, decimal, numbered, sumWord, refusedWord, acceptedText, textOf, unreadText, written, put}
+use Rattle.text.specs.Text.{digitsOf, decimal, numbered, sumWord, refusedWord, acceptedText, textOf, unreadText, written, stored}
 
--- a text and another after it
-pub sets-append : (s t l : List ℕ) (i : ℕ) → sets l i (s ++ t) ≡ sets (sets l i s) (i + length s) t
+-- storing a text and another after it
+sets-append : (s t l : List ℕ) (i : ℕ) → sets l i (s ++ t) ≡ sets (sets l i s) (i + length s) t
 sets-append [] t l i = rw add-zero
 sets-append (a ∷ s) t l i =
     let e : suc i + length s ≡ i + suc (length s) = omega arith in
@@ -32,14 +32,14 @@ module _ (text out : List ℕ) (short : length out < 32) where
   unfolding written
   written-none = rw (lt-ltb (length out) 32 short)
 
-  pub put-none : out ≡ put text out
-  unfolding put
-  put-none = rw (lt-ltb (length out) 32 short)
+  pub stored-none : out ≡ stored text out
+  unfolding stored
+  stored-none = rw (lt-ltb (length out) 32 short)
 
--- in any other a text is stored from the front on
+-- in any other buffer a text is stored from the front on
 pub stored-front : (text out : List ℕ) {r : ℕ} {exit : List ℕ} → 32 ≤ length out → length text ≤ 32
-    → (r ≡ length text) × (exit ≡ sets out 0 text) → (r ≡ written text out) × (exit ≡ put text out)
-unfolding written put
+    → (r ≡ length text) × (exit ≡ sets out 0 text) → (r ≡ written text out) × (exit ≡ stored text out)
+unfolding written stored
 stored-front text out room fits stored =
     rw (le-ltb (length out) 32 room)
     (stored .0, stored .1 ∙ sets-eq text out 0 (omega arith) ∙ rw zero-add)
@@ -55,9 +55,9 @@ pub digits-step : (most x : ℕ) → 0 < most
 digits-step zero x h = absurd (omega arith)
 digits-step (suc most) x h = let d : suc most - 1 ≡ most = omega arith in rw d
 
--- more digits than one: those before the last, and the last
+-- several digits are those before the last, and the last
 module _ (most x : ℕ) (room : 0 < most) (h : 10 ≤ x) where
-  pub digits-more : digitsOf most x ≡ digitsOf (most - 1) (x / 10) ++ (48 + x % 10) ∷ []
+  digits-more : digitsOf most x ≡ digitsOf (most - 1) (x / 10) ++ (48 + x % 10) ∷ []
   digits-more = digits-step most x room ∙ rw (le-ltb x 10 h)
 
   pub digits-length : length (digitsOf most x) ≡ length (digitsOf (most - 1) (x / 10)) + 1
@@ -100,7 +100,7 @@ pub written-short : (text out : List ℕ) {r : ℕ} → r ≡ written text out �
 unfolding written
 written-short text out e h = rw e (by-lt (length out) 32 (λ (n : ℕ). n ≤ 32) (λ short. omega arith) (λ room. h))
 
--- every refusal has a number
+-- the text of every refusal has its number
 pub refused-text : (why : Refusal) → textOf (replyOf (Refused why)) ≡ numbered refusedWord (numberOf why)
 unfolding textOf replyOf
 refused-text Shape = refl
@@ -116,7 +116,7 @@ refused-text Back = refl
 refused-text Block = refl
 refused-text Full = refl
 
--- ---- the digits of a number are decimal, and mean it
+-- ---- the digits of a number are decimal, and have its value
 
 value-append : (v : ℕ) (ds : List ℕ) (d : ℕ) → valueFrom v (ds ++ d ∷ []) ≡ 10 * valueFrom v ds + (d - 48)
 value-append v [] d = refl
@@ -155,7 +155,7 @@ digits-decimal (suc most) x h =
     decimal-more (digitsOf (suc most) (x / 10)) (48 + x % 10) (digits-decimal most (x / 10) small)
     (omega (arith, digits-value (suc most) (x / 10) small)) (digit-of (x % 10) (omega arith)))
 
--- a number is printed in decimal digits with no leading zero, and they mean the number
+-- a number is printed in decimal digits without a leading zero, and they have its value
 pub decimal-right : (x : ℕ) → x < 10 ^ 20 → (isDecimal (decimal x) ≡ true) × (valueOf (decimal x) ≡ x)
 unfolding decimal
 decimal-right x h = (digits-decimal 19 x h, digits-value 20 x h)

@@ -1,4 +1,4 @@
-// An answer of the bench program to bytes: one line.
+// The bytes of an answer of the bench program: one line.
 use model::Answer;
 use model::Refusal;
 ghost use mathlib.Core.Path.{_≡_};
@@ -6,9 +6,9 @@ ghost use Prim.Native.Nat.{_+_, _≤_};
 ghost use lib.ListN.{length};
 ghost use lib.Seq.{sets};
 ghost use Rattle.model.specs.Reply.{numberOf, replyOf};
-ghost use Rattle.text.specs.Text.{digitsOf, numbered, textOf, unreadText, written, put};
+ghost use Rattle.text.specs.Text.{digitsOf, numbered, textOf, unreadText, written, stored};
 
-// Writes a text into the buffer from `at` on, and gives where it ends.
+// Writes a text into the buffer from `at` on. Returns where it ends.
 fn copy(text: &[u8], out: &mut [u8], at: usize) -> usize
     requires { ⌜ at + length (now text) ≤ length (now out) ⌝ }
     ensures { λ r. ⌜ r ≡ at + length (now (text .entry)) ⌝ }
@@ -22,7 +22,7 @@ fn copy(text: &[u8], out: &mut [u8], at: usize) -> usize
     at + text.len()
 }
 
-// Writes a number's digits, at most so many, into the buffer from `at` on, and gives where they end.
+// Writes the digits of a number, at most `most`, into the buffer from `at` on. Returns where they end.
 fn digits(x: u64, most: usize, out: &mut [u8], at: usize) -> usize
     requires { ⌜ at + most ≤ length (now out) ⌝ }
     ensures { λ r. ⌜ r ≡ at + length (digitsOf most x) ⌝ }
@@ -40,7 +40,7 @@ fn digits(x: u64, most: usize, out: &mut [u8], at: usize) -> usize
     end + 1
 }
 
-// Writes a word and a number as one line, and gives how long it is.
+// Writes a word and a number as one line. Returns its length.
 fn line_of(word: &[u8], x: u64, out: &mut [u8]) -> usize
     requires { ⌜ (length (now word) ≤ 8) × (32 ≤ length (now out)) ⌝ }
     ensures { λ r. ⌜ r ≡ length (numbered (now (word .entry)) x) ⌝ }
@@ -58,11 +58,11 @@ fn number(why: Refusal) -> u64
     codes::number(why) as u64
 }
 
-// Writes the line of an answer to the front of the buffer, and gives how long it is: 0 and no byte where the buffer is shorter than
-// 32 bytes.
+// Writes the line of an answer to the front of the buffer. Returns its length. If the buffer is shorter than 32 bytes, it writes nothing and
+// returns 0.
 pub fn answer(a: Answer, out: &mut [u8]) -> usize
     ensures { λ r. ⌜ r ≡ written (textOf (replyOf a)) (now (out .entry)) ⌝ }
-    ensures { λ _. ⌜ now (out .exit) ≡ put (textOf (replyOf a)) (now (out .entry)) ⌝ }
+    ensures { λ _. ⌜ now (out .exit) ≡ stored (textOf (replyOf a)) (now (out .entry)) ⌝ }
 {
     if out.len() < 32 {
         return 0;
@@ -77,7 +77,7 @@ pub fn answer(a: Answer, out: &mut [u8]) -> usize
 // The same for a line that is unread.
 pub fn unread(out: &mut [u8]) -> usize
     ensures { λ r. ⌜ r ≡ written unreadText (now (out .entry)) ⌝ }
-    ensures { λ _. ⌜ now (out .exit) ≡ put unreadText (now (out .entry)) ⌝ }
+    ensures { λ _. ⌜ now (out .exit) ≡ stored unreadText (now (out .entry)) ⌝ }
 {
     if out.len() < 32 {
         return 0;

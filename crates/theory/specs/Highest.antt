@@ -1,5 +1,5 @@
--- Level 0 holds the n highest different offsets with their exact weights, whatever the order of the deliveries: what it must
--- satisfy, that it does, and that only one level does. Assumes nothing.
+-- Level 0 holds the n highest different offsets with their exact weights, whatever the order of the deliveries. Stated as conditions: level
+-- 0 meets them, and only one level does. Assumes nothing.
 use mathlib.Core.Bool.{cond}
 use mathlib.Core.Logic.{⊎-elim}
 use mathlib.Core.Path.{_≡_, refl, sym, ap, _∙_, subst, fun-ext}
@@ -11,17 +11,17 @@ use lib.Dec.{leb, eqb}
 use lib.ListN.{length}
 use Rattle.model.specs.Level.{Bucket, Level, bucketOf, levelOf, put, evict, unit, insert}
 use Rattle.model.specs.Block.{sumFrom}
-use Rattle.laws.specs.Cases.{by-lt, by-le, by-eq, lt-or-ge}
-use Rattle.laws.specs.Tally.{share, more, AtLeast, at-least-less, share-all, share-none, share-suc, share-falls, sumFrom-all, sumFrom-falls}
-use Rattle.laws.specs.Rise.{Rising, rising-above, sumFrom-past}
-use Rattle.laws.specs.Step.{Follows, Tracks, insert-tracks, grow-follows}
+use Rattle.laws.specs.Cond.{by-lt, by-le, by-eq, lt-or-ge}
+use Rattle.laws.specs.SumFrom.{share, more, AtLeast, at-least-less, share-all, share-none, share-suc, share-falls, sumFrom-all, sumFrom-falls}
+use Rattle.laws.specs.Put.{Rising, rising-above, sumFrom-past}
+use Rattle.laws.specs.Unit.{Follows, Tracks, insert-tracks, grow-follows}
 use Rattle.theory.specs.Fed.{Event, fed, counted, Inside, fed-tracks}
 
--- where buckets were given up, the offset just below `first` was delivered at
-abbrev pub Edge : (ℕ → ℕ) → Level → Type 0
+-- if buckets were evicted, something was delivered at the offset just below `first`
+abbrev Edge : (ℕ → ℕ) → Level → Type 0
 Edge c l = (f : ℕ) → l .first ≡ suc f → c (suc f) < c f
 
--- the n highest offsets that c counts at, each with its count; `first` is the next lower one + 1, or 0 where there is none
+-- the n highest offsets at which c counts, each with its count; `first` is the next lower one + 1, or 0 if there is none
 pub record Highest (k n : ℕ) (c : ℕ → ℕ) (l : Level) : Type 0 where
   pub rising : Rising k (l .first) (l .buckets)
   pub exact : (t : ℕ) → l .first ≤ t → sumFrom t (l .buckets) ≡ c t
@@ -71,9 +71,9 @@ module _ (k n : ℕ) (two : 2 ≤ n) where
       let t = fed-tracks k n 0 two es h in
       record { rising = t .follows .0; exact = t .follows .1; few = t .few; full = t .full; edge = fed-edge es h }
 
--- ---- only one level is so
+-- ---- only one level meets the conditions
 
--- the first bucket of a list shows in its sums: a list with the same sums has none above it alone
+-- the first bucket of a list shows in its sums, so a list that starts above it cannot have the same sums
 head-shows : (b : Bucket) (bs others : List Bucket) → 1 ≤ b .weight → AtLeast (suc (b .offset)) others
     → ((t : ℕ) → b .offset ≤ t → sumFrom t (b ∷ bs) ≡ sumFrom t others) → ⊥
 head-shows b bs others some above same =
@@ -97,7 +97,7 @@ module _ (k a : ℕ) where
   abbrev Same : List Bucket → List Bucket → Type 0
   Same bs cs = (t : ℕ) → a ≤ t → sumFrom t bs ≡ sumFrom t cs
 
-  -- neither starts below the other
+  -- neither can start above the first bucket of the other
   starts : (b : Bucket) (bs cs : List Bucket) → Rising k a (b ∷ bs) → Rising k (suc (b .offset)) cs → Same (b ∷ bs) cs → ⊥
   starts b bs cs r s same =
       head-shows b bs cs (r .0 .some) (rising-above k (suc (b .offset)) (suc (b .offset)) cs (le-refl _) s) (λ t h. same t (omega (arith, r .0 .low)))
@@ -111,7 +111,7 @@ module _ (k a : ℕ) where
       (λ (l : b .offset ≤ d .offset). l)
       (lt-or-ge (d .offset) (b .offset))
 
--- so rising buckets are known by their sums
+-- so rising buckets are determined by their sums
 rising-same : (k a : ℕ) (bs cs : List Bucket) → Rising k a bs → Rising k a cs → Same k a bs cs → bs ≡ cs
 rising-same k a [] [] r s same = refl
 rising-same k a [] (d ∷ cs) r s same = absurd (starts k a d cs [] s tt (λ t h. sym (same t h)))
@@ -150,7 +150,7 @@ module _ (t : ℕ) where
   keep-length [] = omega arith
   keep-length (b ∷ bs) = by-le t (b .offset) (λ z. length z ≤ suc (length bs)) (λ _. omega arith) (λ _. omega (arith, keep-length bs))
 
-  -- what shows below t is not kept
+  -- a bucket that counts below t is not kept
   keep-fewer : (k a s : ℕ) (bs : List Bucket) → s ≤ t → Rising k a bs → sumFrom t bs < sumFrom s bs → length (keep t bs) < length bs
   keep-fewer k a s [] h r less = absurd (omega arith)
   keep-fewer k a s (b ∷ bs) h r less =
@@ -160,7 +160,7 @@ module _ (t : ℕ) where
       (λ _. omega (arith, keep-length bs))
 
 module _ {k n : ℕ} {c : ℕ → ℕ} where
-  -- neither first is above the other: that level would have given up too few
+  -- no level has a lower `first` than the other: it would have evicted too few buckets
   first-most : (l m : Level) → Highest k n c l → Highest k n c m → l .first ≤ m .first
   first-most l m p q = go (l .first) refl
     where
@@ -183,7 +183,7 @@ module _ {k n : ℕ} {c : ℕ → ℕ} where
           (λ (least : suc f ≤ m .first). least)
           (lt-or-ge (m .first) (suc f))
 
-  pub highest-one : (l m : Level) → Highest k n c l → Highest k n c m → l ≡ m
+  highest-one : (l m : Level) → Highest k n c l → Highest k n c m → l ≡ m
   highest-one l m p q =
       let f : l .first ≡ m .first = omega (arith, first-most l m p q, first-most m l q p) in
       let bs : l .buckets ≡ m .buckets =
@@ -191,7 +191,7 @@ module _ {k n : ℕ} {c : ℕ → ℕ} where
       (λ t h. omega (arith, p .exact t h, q .exact t (omega arith))) in
       rw (f, bs)
 
--- the order of the events does not matter to level 0: it hangs on what they count alone
+-- the order of the events does not matter to level 0, which depends only on their counts
 pub fed-order : (k n : ℕ) → 2 ≤ n → (es ds : List Event) → Inside k es → Inside k ds → ((t : ℕ) → counted es t ≡ counted ds t) → fed k n 0 es ≡ fed k n 0 ds
 fed-order k n two es ds he hd same =
     highest-one (fed k n 0 es) (fed k n 0 ds) (fed-highest k n two es he)
@@ -225,7 +225,7 @@ pub counted-at : (t : ℕ) (es : List Event) → counted es t ≡ volumeAt t es 
 counted-at t [] = refl
 counted-at t (e ∷ es) = omega (arith, share-at (e .at) (e .vol) t, counted-at t es)
 
--- level 0 has at every offset from its first on what was delivered there
+-- at every offset from its first on, level 0 has what was delivered there
 pub fed-weight-at : (k n : ℕ) → 2 ≤ n → (es : List Event) → Inside k es
     → (t : ℕ) → fed k n 0 es .first ≤ t → weightAt t (fed k n 0 es .buckets) ≡ volumeAt t es
 fed-weight-at k n two es inside t h =

@@ -1,5 +1,5 @@
--- How far the sums of a level are from the counts that it follows, at every offset from its first on, and how much a level has
--- counted that has given buckets up. For every level, every counts. Assumes nothing.
+-- How far the sums of a level are from the counts that it follows, at every offset from its first on; and how much a level has counted if it
+-- has evicted buckets. For every level and all counts. Assumes nothing.
 use mathlib.Core.Logic.{⊎-elim}
 use mathlib.Core.Path.{_≡_, ap}
 use mathlib.Core.List.{List, [], _∷_}
@@ -9,14 +9,14 @@ use native.Mathlib.Omega.{arith}
 use Rattle.model.specs.Level.{Bucket, Level}
 use Rattle.model.specs.Block.{sumFrom}
 use Rattle.model.specs.Sound.{weightOf}
-use Rattle.laws.specs.Cases.{Near, by-le, lt-or-ge}
-use Rattle.laws.specs.Tally.{Falling, AtLeast, sumFrom-all}
-use Rattle.laws.specs.Chain.{Dyadic, Chain, chain-above}
-use Rattle.laws.specs.Rise.{rising-above}
-use Rattle.laws.specs.Step.{Follows, Tracks}
-use Rattle.laws.specs.Kept.{tracks-heavy}
+use Rattle.laws.specs.Cond.{Near, by-le, lt-or-ge}
+use Rattle.laws.specs.SumFrom.{Falling, AtLeast, sumFrom-all}
+use Rattle.laws.specs.Add.{Dyadic, Chain, chain-above}
+use Rattle.laws.specs.Put.{rising-above}
+use Rattle.laws.specs.Unit.{Follows, Tracks}
+use Rattle.laws.specs.InsertSound.{tracks-heavy}
 
--- an interval of more than one tick was halved less than k times
+-- an interval of more than one tick was halved fewer than k times
 shallow : {k a width : ℕ} (d : Dyadic k a width) → 1 < width → suc (d .depth) ≤ k
 shallow {k} {width} d long = go (d .size) (d .power) (d .deep)
   where
@@ -25,7 +25,7 @@ shallow {k} {width} d long = go (d .size) (d .power) (d .deep)
     go (suc z) e f = omega arith
 
 module _ (p k : ℕ) (c : ℕ → ℕ) (falls : Falling c) where
-  -- t strictly inside the first bucket
+  -- t lies strictly inside the first bucket
   inside-near : {a : ℕ} {b : Bucket} (t : ℕ) (bs : List Bucket) → a < t → t < a + b .width → Chain p k c a (b ∷ bs) → Near ((k + 1) * p) (weightOf bs) (c t)
   inside-near {a} {b} t bs l h g =
       let q = g .0 in
@@ -64,11 +64,11 @@ follows-above k zero c first bs g = rising-above k first first bs (le-refl first
 follows-above k (suc j) c first bs g = chain-above (2 ^ suc j) k c first first bs (le-refl first) g
 
 module _ {k n i total : ℕ} {c : ℕ → ℕ} {l : Level} (tracks : Tracks k n i total c l) where
-  -- the error of a sum, wherever it starts
+  -- the error of a sum, from any offset on
   pub tracks-near : (t : ℕ) → l .first ≤ t → t ≤ 2 ^ k → Near ((k + 1) * 2 ^ i) (sumFrom t (l .buckets)) (c t)
   tracks-near t h inside = follows-near k i c (l .first) t (l .buckets) (tracks .falls) h inside (tracks .follows)
 
-  -- a level that has given up what stood at a has counted much from a on
+  -- a level that has evicted what lay at a has counted much from a on
   pub tracks-crowded : 2 ≤ n → (a : ℕ) → a < l .first → n * 2 ^ i ≤ c a + (k + 1) * 2 ^ i
   tracks-crowded two a h =
       let f = l .first in

@@ -1,5 +1,5 @@
--- The relative bound: the sum of the finest level that still holds offset a differs from the exact one by at most the factor that
--- demand 3 asks. Rests on the error of a level and on how much the next finer one has counted. Assumes nothing.
+-- The relative bound: the sum of the finest level that serves offset a differs from the exact one by at most the factor of SPECIFICATION
+-- 9.3. Rests on the error of a level and on how much the next finer one has counted. Assumes nothing.
 use mathlib.Core.Path.{_≡_, ap}
 use mathlib.Core.List.{List}
 use Prim.Native.Nat.{ℕ, zero, suc, _+_, _-_, _*_, _^_, _≤_, _<_}
@@ -8,13 +8,13 @@ use native.Mathlib.Omega.{arith}
 use Rattle.model.specs.Level.{Level}
 use Rattle.model.specs.Block.{sumFrom, serving, upFrom}
 use Rattle.model.specs.Claim.{Admits}
-use Rattle.laws.specs.Cases.{Near, by-le}
-use Rattle.laws.specs.Step.{Tracks}
-use Rattle.laws.specs.Kept.{sound-serves}
+use Rattle.laws.specs.Cond.{Near, by-le}
+use Rattle.laws.specs.Unit.{Tracks}
+use Rattle.laws.specs.InsertSound.{sound-serves}
 use Rattle.theory.specs.Near.{tracks-near, tracks-crowded}
 use Rattle.theory.specs.Fed.{Event, fed, counted, Inside, fed-tracks, fed-sound}
 
--- an error of 2 * (k + 1) * q beside a count of (n - k - 1) * q or more
+-- an error of at most 2 * (k + 1) * q, and a count of at least (n - k - 1) * q, give the bound
 ratio : (book exact q k n : ℕ) → k + 1 ≤ n → Near ((k + 1) * (2 * q)) book exact → n * q ≤ exact + (k + 1) * q → Admits n k book exact
 ratio book exact q k n room close many =
     let m = n - (k + 1) in
@@ -26,11 +26,11 @@ ratio book exact q k n room close many =
 -- levels 0, 1 and so on that follow the same counts
 module _ (k n total : ℕ) (c : ℕ → ℕ) (l : ℕ → Level) (tracks : (i : ℕ) → Tracks k n i total c (l i)) (room : k + 1 < n)
     (a : ℕ) (inside : a < 2 ^ k) where
-  -- what the level answers at a is near enough
+  -- what the level answers at a keeps the bound
   abbrev Answers : Level → Type 0
   Answers z = Admits n k (sumFrom a (z .buckets)) (c a)
 
-  -- the level just below i, where there is one, does not hold a
+  -- the level just below i, if there is one, does not serve a
   abbrev Gone : ℕ → Type 0
   Gone zero = Unit {0}
   Gone (suc j) = a < l j .first
@@ -42,13 +42,13 @@ module _ (k n total : ℕ) (c : ℕ → ℕ) (l : ℕ → Level) (tracks : (i : 
       ratio (sumFrom a (l (suc j) .buckets)) (c a) (2 ^ j) k n (omega arith)
       (rw twice at (tracks-near (tracks (suc j)) a held (omega arith))) (tracks-crowded (tracks j) (omega arith) a gone)
 
-  -- level i and d more, of which the last is whole
+  -- levels i to i + d, of which the last has evicted nothing
   serving-answers : (d i : ℕ) → Gone i → l (i + d) .first ≡ 0 → Answers (serving a (upFrom l i (suc d)))
   serving-answers zero i gone whole = by-le (l i .first) a Answers (held-answers i gone) (λ above. absurd (omega (arith, rw add-zero at whole)))
   serving-answers (suc d) i gone whole =
       by-le (l i .first) a Answers (held-answers i gone) (λ above. serving-answers d (suc i) above (rw (add-suc, ← suc-add) at whole))
 
--- the levels from 0 on, of which the last is whole: the finest that holds a admits the bound
+-- levels 0 to `last`, of which the last has evicted nothing: the finest that serves a keeps the bound
 pub relative : (k n last : ℕ) (es : List Event) → Inside k es → k + 1 < n → counted es 0 < n * 2 ^ last → (a : ℕ) → a < 2 ^ k
     → Admits n k (sumFrom a (serving a (upFrom (λ i. fed k n i es) 0 (suc last)) .buckets)) (counted es a)
 relative k n last es inside room small a h =
@@ -56,11 +56,11 @@ relative k n last es inside room small a h =
     let whole : fed k n last es .first ≡ 0 = sound-serves two (fed-sound k n last two es inside) small in
     serving-answers k n (counted es 0) (counted es) (λ i. fed k n i es) (λ i. fed-tracks k n i two es inside) room a h last 0 tt (rw zero-add whole)
 
--- the same exact volume more on both sides keeps the bound
+-- adding the same exact volume on both sides keeps the bound
 pub admits-more : (n k book exact more : ℕ) → Admits n k book exact → Admits n k (book + more) (exact + more)
 admits-more n k book exact more a = omega (arith, add-mul book more (n - (k + 1)), add-mul exact more (n - (k + 1)))
 
--- the same as a nearness: the error times n - k - 1 is at most 2 * (k + 1) times the exact sum
+-- the same as nearness: the error times n - k - 1 is at most 2 * (k + 1) times the exact sum
 pub relative-near : (k n last : ℕ) (es : List Event) → Inside k es → k + 1 < n → counted es 0 < n * 2 ^ last → (a : ℕ) → a < 2 ^ k
     → let book = sumFrom a (serving a (upFrom (λ i. fed k n i es) 0 (suc last)) .buckets) in
     Near (2 * (k + 1) * counted es a) (book * (n - (k + 1))) (counted es a * (n - (k + 1)))

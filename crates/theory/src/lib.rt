@@ -1,1 +1,2 @@
-// The mathematics of the estimate: what the levels hold after any list of deliveries, and how far a sum is from the exact one. No code: see specs/.
+// The mathematics of the estimate: what the levels hold after any list of deliveries, and how far a sum is from the exact one. It has no
+// code; see specs/.

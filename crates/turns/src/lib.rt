@@ -1,4 +1,4 @@
-// A quick pass over the buckets of a level: sixteen slots a turn, then those that are left one by one.
+// The quick pass over the buckets of a level: sixteen slots a turn, then the slots that are left, one by one.
 use quick_laws::Quick;
 use quick_laws::Rows;
 use row::quick_bucket;
@@ -11,11 +11,11 @@ ghost use Prim.Native.Nat.{_+_, _-_, _*_, _<_, _≤_};
 ghost use lib.Dec.{leb, eqb};
 ghost use lib.ListN.{length};
 ghost use Rattle.model.specs.Words.{slots};
-ghost use Rattle.quick_laws.specs.Quick.{fresh, marked, quickEach};
-ghost use Rattle.quick_laws.specs.Rows.{joined, ReadRows, ByRows};
+ghost use Rattle.quick_laws.specs.Quick.{fresh, mark, quickEach};
+ghost use Rattle.quick_laws.specs.Rows.{joinRows, ReadRows, ByRows};
 
-// Before the first bucket, which has this length.
-fn begin(first: u32, width: u32) -> Quick
+// Before the first bucket, which has this width.
+fn fresh(first: u32, width: u32) -> Quick
     ensures { λ r. ⌜ r ≡ fresh first width ⌝ }
 {
     Quick {
@@ -26,9 +26,9 @@ fn begin(first: u32, width: u32) -> Quick
     }
 }
 
-// The end is to be within reach, so that it has not wrapped.
+// Marks the end: it must be within reach, so that it has not wrapped.
 fn mark(t: Quick) -> Quick
-    ensures { λ r. ⌜ r ≡ marked t ⌝ }
+    ensures { λ r. ⌜ r ≡ mark t ⌝ }
 {
     Quick {
         end: t.end,
@@ -52,8 +52,8 @@ fn quick_rest(t: Quick, level: &[u32], from: usize, count: usize, least: u32, mo
     seen
 }
 
-// Whether sixteen slots more are read at once. Where rows do not join the buckets are unsound, and a loop that may end there is not
-// taken by the compiler for one over single words, which would be slower.
+// Whether sixteen more slots are read at once. If rows do not join, the buckets are unsound. The compiler would take a loop without this
+// test for one over single words, which is slower.
 fn goes_on(t: Rows, at: usize, count: usize) -> bool
     requires { ⌜ at ≤ 1024 ⌝ }
     ensures { λ r. ⌜ r ≡ (leb (at + 16) count && eqb (t .gap) 0) ⌝ }
@@ -61,22 +61,22 @@ fn goes_on(t: Rows, at: usize, count: usize) -> bool
     both(at + 16 <= count, t.gap == 0)
 }
 
-// Rows, and how many slots they have read.
+// The rows, and how many slots they have read.
 struct Turned {
     rows: Rows,
     at: usize,
 }
 
-// The slots by sixteen.
+// The slots in turns of sixteen.
 fn quick_turns(level: &[u32], count: usize, least: u32, most: u32) -> Turned
     requires { ⌜ (2 + 3 * count ≤ length (now level)) × (count ≤ 1024) × (0 < count) ⌝ }
     ensures { λ r. ⌜ ReadRows least most (now (level .entry)) count (r .rows) (r .at) ⌝ }
 {
     let mut t = Rows {
-        one: begin(level[1], level[3]),
-        two: begin(0, 1),
-        three: begin(0, 1),
-        four: begin(0, 1),
+        one: fresh(level[1], level[3]),
+        two: fresh(0, 1),
+        three: fresh(0, 1),
+        four: fresh(0, 1),
         gap: 0,
         end: level[1],
     };
@@ -90,9 +90,9 @@ fn quick_turns(level: &[u32], count: usize, least: u32, most: u32) -> Turned
     Turned { rows: t, at: at }
 }
 
-// What all rows have collected.
-fn join(t: Rows) -> Quick
-    ensures { λ r. ⌜ r ≡ joined t ⌝ }
+// What all rows have collected together.
+fn join_rows(t: Rows) -> Quick
+    ensures { λ r. ⌜ r ≡ joinRows t ⌝ }
 {
     let one = t.one;
     let two = t.two;
@@ -112,5 +112,5 @@ pub fn quick_buckets(level: &[u32], count: usize, least: u32, most: u32) -> Quic
 {
     let turned = quick_turns(level, count, least, most);
     let rows = turned.rows;
-    quick_rest(join(rows), level, turned.at, count, least, most)
+    quick_rest(join_rows(rows), level, turned.at, count, least, most)
 }

@@ -1,4 +1,4 @@
--- What it tells that bits joined, or bits in common, are none. Assumes nothing.
+-- What follows if joined bits, or common bits, are 0. Assumes nothing.
 use mathlib.Core.Bool.{_&&_}
 use mathlib.Core.Path.{_≡_}
 use mathlib.Core.Logic.{⊎-elim}
@@ -8,8 +8,8 @@ use native.Mathlib.Omega.{arith}
 use lib.Arith.{bin-ind}
 use lib.Bits.{bitAnd, bitOr, bitXor, and-step, and-le-l, and-le-r, and-self, or-add-and, xor-add-and, xor-self}
 use lib.Dec.{eqb}
-use Rattle.laws.specs.Cases.{lt-or-ge}
-use Rattle.laws.specs.Reflect.{tests-same, tests-equal, eqb-tests, and-tests}
+use Rattle.laws.specs.Cond.{lt-or-ge}
+use Rattle.laws.specs.Tests.{tests-same, tests-equal, eqb-tests, and-tests}
 
 module _ (a b : ℕ) where
   pub or-none : bitOr a b ≡ 0 → (a ≡ 0) × (b ≡ 0)
@@ -27,7 +27,7 @@ module _ (a b : ℕ) where
 pub none-xor : (a b : ℕ) → a ≡ b → bitXor a b ≡ 0
 none-xor a b e = rw e (xor-self b)
 
--- bits joined are none just where those of both are
+-- joined bits are 0 exactly if both numbers are 0
 pub or-tested : (a b : ℕ) → eqb (bitOr a b) 0 ≡ (eqb a 0 && eqb b 0)
 or-tested a b =
     tests-equal (eqb-tests (bitOr a b) 0) (tests-same (and-tests (eqb-tests a 0) (eqb-tests b 0)) (λ p. none-or a b (p .0) (p .1)) (or-none a b))
@@ -37,7 +37,7 @@ pub record PowerOf (w : ℕ) : Type 0 where
   pub size : ℕ
   pub same : w ≡ 2 ^ size
 
--- a number that has no bit in common with the one before it is a power of two
+-- a number that shares no bit with the number before it is a power of two
 pub lone-bit : (w : ℕ) → 0 < w → bitAnd w (w - 1) ≡ 0 → PowerOf w
 lone-bit = bin-ind (λ (n : ℕ). 0 < n → bitAnd n (n - 1) ≡ 0 → PowerOf n) (λ h. absurd (omega arith)) step
   where

@@ -1,8 +1,11 @@
-// What several crates do with words: a word as a number of another width, a power of two, the words of a slot, and two truth values joined.
+// What several crates do with words: a word as a number of another type, a power of two, the words of a slot, and two Booleans joined.
+use shape::LEVEL_HEAD_LEN;
+use shape::SLOT_LEN;
 ghost use mathlib.Core.Path.{_≡_};
 ghost use mathlib.Core.Bool.{_&&_};
 ghost use Prim.Native.Nat.{_+_, _*_, _^_, _<_, _≤_};
 ghost use lib.ListN.{length, drop};
+ghost use Rattle.shape.specs.Layout.{slotLen, slotStart};
 ghost use Rattle.model.specs.Words.{slot};
 ghost use Rattle.model.specs.Sound.{implies};
 ghost use Rattle.words.specs.Slot.{content, front};
@@ -14,7 +17,7 @@ pub fn wide(x: u32) -> usize
     x as usize
 }
 
-// A word as a part of a sum, which no words overflow.
+// A word as a term of a sum of 64 bits.
 pub fn long(x: u32) -> u64
     ensures { λ r. ⌜ (r ≡ x) × (r < 2 ^ 32) ⌝ }
 {
@@ -48,10 +51,10 @@ pub struct Slot {
 }
 
 pub fn slot_at(level: &[u32], j: usize) -> Slot
-    requires { ⌜ 2 + 3 * (j + 1) ≤ length (now level) ⌝ }
+    requires { ⌜ slotStart (j + 1) ≤ length (now level) ⌝ }
     ensures { λ r. ⌜ content r ≡ slot (now (level .entry)) j ⌝ }
 {
-    let at = 2 + 3 * j;
+    let at = LEVEL_HEAD_LEN + SLOT_LEN * j;
     Slot {
         offset: level[at],
         width: level[at + 1],
@@ -61,7 +64,7 @@ pub fn slot_at(level: &[u32], j: usize) -> Slot
 
 // The slot whose words start at `at`.
 pub fn slot_from(rest: &[u32], at: usize) -> Slot
-    requires { ⌜ at + 3 ≤ length (now rest) ⌝ }
+    requires { ⌜ at + slotLen ≤ length (now rest) ⌝ }
     ensures { λ r. ⌜ content r ≡ front (drop at (now (rest .entry))) ⌝ }
 {
     Slot {

@@ -1,7 +1,8 @@
 //! Books grown by a realistic load: deliveries mostly in order, some hours late, through one
 //! interval and three quarters of the next, so that the totals come near what an interval keeps.
 
-use reference::random::Random;
+use draw::random::Random;
+use reference::layout;
 use reference::shape::Shape;
 use rivals::{Calls, Fast};
 
@@ -59,13 +60,13 @@ impl Load {
     /// touch, so each grade's block grows in a book of its own, where the clock checks no other.
     pub fn grow(&mut self) -> Vec<u32> {
         let shape = self.shape;
-        let [k, n, m, g] = [shape.k(), shape.n(), shape.m(), shape.g()];
+        let [k, n, m, g] = shape.numbers();
         let mut book = vec![0; shape.book_length()];
         Fast::make(&mut book, k, n, m, g).expect(ACCEPTED);
         for grade in 0..g {
             let alone = self.grow_alone(Shape::new(k, n, m, 1).expect(ACCEPTED));
-            book[4] = alone[4];
-            book[shape.block(grade)].copy_from_slice(&alone[Shape::HEAD_WORDS..]);
+            book[layout::CLOCK] = alone[layout::CLOCK];
+            book[shape.block(grade)].copy_from_slice(&alone[layout::HEAD_WORDS..]);
         }
         book
     }
@@ -80,7 +81,7 @@ impl Load {
             if arrival % ARRIVALS_PER_CLOCK == 1 || arrival == arrivals {
                 Fast::clock(&mut book, now).expect(ACCEPTED);
             }
-            let (stamp, volume) = (self.stamp(book[4]), self.volume());
+            let (stamp, volume) = (self.stamp(book[layout::CLOCK]), self.volume());
             Fast::delivery(&mut book, 0, stamp, volume).expect(ACCEPTED);
         }
         book
@@ -100,7 +101,8 @@ impl Load {
 /// How many of a half's levels have no free slot, even half first.
 pub fn full_levels(shape: Shape, block: &[u32]) -> [usize; 2] {
     [0, 1].map(|parity| {
-        let levels = (0..shape.levels()).map(|index| block[shape.level(parity, index)][0]);
+        let levels =
+            (0..shape.levels()).map(|index| block[shape.level(parity, index)][layout::COUNT]);
         levels.filter(|count| *count == shape.n()).count()
     })
 }

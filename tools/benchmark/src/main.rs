@@ -4,24 +4,21 @@
 #![forbid(unsafe_code)]
 
 mod candidate;
+mod command;
 mod load;
 mod measure;
-mod options;
 mod report;
 mod task;
 
 use std::process::ExitCode;
 
-use options::Options;
+use command::{Options, USAGE};
 
 fn main() -> ExitCode {
-    let options = match Options::read(std::env::args().skip(1)) {
-        Ok(options) => options,
-        Err(message) => {
-            eprintln!("{message}\n{}", Options::USAGE);
-            return ExitCode::from(2);
-        }
-    };
+    options::main(USAGE, Options::read, measure_all)
+}
+
+fn measure_all(options: Options) -> ExitCode {
     let first = report::run(options.rounds);
     print!("{}", report::tables(&first));
     println!("{}", report::bars(&first));

@@ -3,6 +3,7 @@
 use std::hint::black_box;
 use std::time::Instant;
 
+use reference::layout;
 use reference::shape::Shape;
 
 use crate::candidate::{CANDIDATES, READS};
@@ -90,7 +91,7 @@ impl Words {
         let Row { kind, shape, grown } = *row;
         let inspected = Batch::inspected(kind, shape, 0).len();
         let calls = (WORDS_PER_BATCH / inspected).clamp(2, 256) as u32;
-        let batch = Batch::new(kind, shape, grown[4], load, calls);
+        let batch = Batch::new(kind, shape, grown[layout::CLOCK], load, calls);
         let mut sums = [0; CANDIDATES.len()];
         let mut time = [0.0; TIMED];
         self.expected.clear();

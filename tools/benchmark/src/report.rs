@@ -2,6 +2,7 @@
 
 use std::fmt::Write;
 
+use draw::shapes::{SITE, SITE_OF_EIGHT};
 use reference::shape::Shape;
 
 use crate::load::{full_levels, Load};
@@ -32,8 +33,6 @@ const RATIOS: [(&str, usize, usize); 4] = [
     ("(b) / (c4)", FAST, READ_4),
 ];
 
-const SITE: [u32; 4] = [20, 441, 24, 1];
-const SITE_EIGHT: [u32; 4] = [20, 441, 24, 8];
 const SMALL: [u32; 4] = [10, 64, 16, 1];
 
 /// Slots and levels for which the growth of a delivery is measured.
@@ -67,7 +66,7 @@ type Asked<'a> = (String, Kind, Shape, &'a [u32]);
 /// Measures everything. The rows of all tables take turns, so that each is spread over the whole run.
 pub fn run(rounds: usize) -> Vec<Table> {
     let [k, n, m, g] = SITE;
-    let sites = [SITE, SITE_EIGHT, SMALL].map(grown);
+    let sites = [SITE, SITE_OF_EIGHT, SMALL].map(grown);
     let by_slots = SLOTS.map(|n| grown([k, n, m, g]));
     let by_levels = LEVELS.map(|m| grown([k, n, m, g]));
     let mut asked: Vec<(String, &'static str, Vec<Asked>)> = Vec::new();
@@ -121,7 +120,7 @@ fn measured(asked: Vec<(String, &'static str, Vec<Asked>)>, rounds: usize) -> Ve
 }
 
 fn described(shape: Shape, book: &[u32]) -> String {
-    let [k, n, m, g] = [shape.k(), shape.n(), shape.m(), shape.g()];
+    let [k, n, m, g] = shape.numbers();
     let words = thousands(shape.block_length());
     let filled = filled(shape, book);
     format!("({k}, {n}, {m}, {g}): {words} words in a block, {filled}")

@@ -91,7 +91,7 @@ impl Batch {
                 Kind::FullQuery => Call::Query(grade, ticks),
                 Kind::Clock => Call::Clock(clock + number),
                 Kind::NextInterval => Call::Clock(clock + ticks),
-                Kind::Make => Call::Make([shape.k(), shape.n(), shape.m(), shape.g()]),
+                Kind::Make => Call::Make(shape.numbers()),
             }
         };
         let calls = if kind == Kind::NextInterval { 1 } else { calls };

@@ -5,15 +5,7 @@
 #![forbid(unsafe_code)]
 #![warn(missing_docs)]
 
-pub mod book;
-pub mod calls;
-pub mod damage;
-pub mod implementation;
-pub mod options;
+pub mod command;
 pub mod pair;
-pub mod places;
 pub mod run;
-pub mod shapes;
-pub mod sound;
-pub mod tally;
-pub mod wrapped;
+pub mod summary;

@@ -3,12 +3,8 @@
 use std::fmt::{self, Display, Formatter};
 use std::ops::Range;
 
-use reference::calls::{self, Answer, Call};
-
-use crate::implementation::Implementation;
-
-/// The answer of a call.
-pub type Reply = Result<Answer, u32>;
+use reference::calls::{self, Call, Reply};
+use reference::protocol::answer;
 
 /// Both sides' words, equal after each call.
 pub struct Pair {
@@ -65,14 +61,14 @@ impl Pair {
     /// Lends both sides so many words for a call and compares answers and all words.
     pub fn perform(
         &mut self,
-        implementation: &impl Implementation,
+        implementation: impl Fn(&mut [u32], Call) -> Reply,
         lent: usize,
         call: Call,
     ) -> Result<Reply, Box<Difference>> {
         let range = self.start..self.start + lent;
         self.before.copy_from_slice(&self.ours);
         let expected = calls::perform(&mut self.ours[range.clone()], call);
-        let found = implementation.perform(&mut self.theirs[range.clone()], call);
+        let found = implementation(&mut self.theirs[range.clone()], call);
         if expected.is_err() || matches!(call, Call::Query { .. }) {
             assert!(self.ours == self.before, "the second program: {call:?}");
         }
@@ -107,8 +103,8 @@ impl Pair {
 impl Display for Difference {
     fn fmt(&self, f: &mut Formatter<'_>) -> fmt::Result {
         writeln!(f, "call {:?} on {} words", self.call, self.lent)?;
-        write!(f, "answers {}, expected ", reply(&self.found))?;
-        write!(f, "{}", reply(&self.expected))?;
+        let [found, expected] = [self.found, self.expected].map(answer);
+        write!(f, "answers {found}, expected {expected}")?;
         match &self.word {
             None => write!(f, "\nwords equal"),
             Some(word) => write!(
@@ -117,13 +113,5 @@ impl Display for Difference {
                 word.place, word.found, word.expected, word.before
             ),
         }
-    }
-}
-
-fn reply(reply: &Reply) -> String {
-    match reply {
-        Ok(Answer::Done) => "ok".to_string(),
-        Ok(Answer::Sum(sum)) => format!("= {sum}"),
-        Err(number) => format!("refused {number}"),
     }
 }

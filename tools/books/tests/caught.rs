@@ -2,7 +2,8 @@
 
 mod wrong;
 
-use reference::calls::{perform, Answer, Call};
+use reference::calls::{perform, Answer, Call, Reply};
+use reference::layout;
 use reference::shape::Shape;
 use reference::soundness::{block_is_sound, sound_head, Fault};
 use reference::words::{decode_block, decode_head, RawLevel};
@@ -140,7 +141,7 @@ fn starts_of_blocks_modulo_2_to_the_32() {
         if let (Err(3), Call::Delivery { grade, .. }) = (reply, call) {
             let (shape, _) = sound_head(decode_head(book)).expect("3 comes after 7");
             let start = grade.wrapping_mul(shape.block_length() as u32);
-            if (start as usize) < book.len() - Shape::HEAD_WORDS {
+            if (start as usize) < book.len() - layout::HEAD_WORDS {
                 return Ok(Answer::Done);
             }
         }
@@ -150,7 +151,7 @@ fn starts_of_blocks_modulo_2_to_the_32() {
 }
 
 /// Answers the later refusal where it holds as well.
-fn reordered(first: u32, later: u32) -> impl Fn(&mut [u32], Call) -> Result<Answer, u32> {
+fn reordered(first: u32, later: u32) -> impl Fn(&mut [u32], Call) -> Reply {
     move |book, call| {
         let reply = perform(book, call);
         if reply != Err(first) {
@@ -167,10 +168,10 @@ fn reordered(first: u32, later: u32) -> impl Fn(&mut [u32], Call) -> Result<Answ
 fn mended(book: &[u32], mut call: Call, refusal: u32) -> Call {
     match &mut call {
         Call::Make { k, n, m, g } => (*k, *n, *m, *g) = (2, 2, 1, 1),
-        Call::Clock { clock } => *clock = book[4],
+        Call::Clock { clock } => *clock = book[layout::CLOCK],
         Call::Delivery { grade, .. } | Call::Query { grade, .. } if refusal == 3 => *grade = 0,
         Call::Delivery { volume, .. } if refusal == 4 => *volume = Shape::VOLUME_MAX,
-        Call::Delivery { stamp, .. } => *stamp = book[4],
+        Call::Delivery { stamp, .. } => *stamp = book[layout::CLOCK],
         Call::Query { window, .. } => *window = 0,
     }
     call

@@ -1,13 +1,13 @@
 //! The command line, a run through the archive, and what a failed run reports.
 
-use books::implementation::Archive;
-use books::options::Options;
+use books::command::Options;
 use books::pair::{Difference, WordDifference};
 use books::run::run;
+use options::Words;
 use reference::calls::Call;
 
 fn parse(arguments: &[&str]) -> Result<Options, String> {
-    Options::parse(arguments.iter().map(|argument| argument.to_string()))
+    Options::read(Words::new(arguments))
 }
 
 #[test]
@@ -23,19 +23,18 @@ fn options() {
 
 #[test]
 fn the_archive_is_equal() {
-    let tally = run(&Archive, 3, 0..2500).unwrap_or_else(|failure| panic!("{failure}"));
-    assert_eq!(tally.books(), 2500);
-    assert!(tally.missing().is_empty(), "{tally}");
+    let all = run(archive::perform, 3, 0..2500).unwrap_or_else(|failure| panic!("{failure}"));
+    assert_eq!(all.books(), 2500);
+    assert_eq!(all.faults(), Vec::<String>::new(), "{all}");
 }
 
 #[test]
 fn a_book_depends_on_seed_and_number_alone() {
-    let one = |book| run(&Archive, 3, book..book + 1).expect("equal").to_string();
-    let calls = |text: String| text.split(", ").nth(3).unwrap().to_string();
-    let all: Vec<String> = (0..20).map(|book| calls(one(book))).collect();
-    let again: Vec<String> = (0..20).rev().map(|book| calls(one(book))).collect();
+    let one = |book| run(archive::perform, 3, book..book + 1).expect("equal");
+    let all: Vec<_> = (0..20).map(one).collect();
+    let again: Vec<_> = (0..20).rev().map(one).collect();
     assert!(all.iter().eq(again.iter().rev()));
-    assert!(all.iter().any(|calls| *calls != all[0]));
+    assert!(all.iter().any(|one| one.calls() != all[0].calls()));
 }
 
 #[test]

@@ -2,9 +2,9 @@
 
 mod wrong;
 
-use books::pair::Reply;
-use reference::calls::{perform, Answer, Call};
+use reference::calls::{perform, Answer, Call, Reply};
 use reference::histogram::{Bucket, Histogram, Level};
+use reference::layout;
 use reference::shape::Shape;
 use reference::words::{decode_block, decode_head, encode_block};
 use wrong::{assert_equal, difference};
@@ -111,7 +111,7 @@ fn answering(sum_from: impl Fn(&Histogram, u64) -> u64) -> impl Fn(&mut [u32], C
         let Call::Query { grade, window } = call else {
             return Ok(reply);
         };
-        let (shape, clock) = (shape_of(book), book[4]);
+        let (shape, clock) = (shape_of(book), book[layout::CLOCK]);
         let opening = u64::from(clock.saturating_sub(window));
         let block = halves(book, grade);
         let mut sum = sum_from(&block[shape.parity(opening)], shape.offset(opening));
@@ -158,7 +158,8 @@ fn one_half_emptied_after_a_skip() {
         let reply = perform(book, call)?;
         if let Call::Clock { clock } = call {
             let shape = shape_of(&before);
-            let entered = shape.interval(clock.into()) - shape.interval(before[4].into());
+            let entered =
+                shape.interval(clock.into()) - shape.interval(before[layout::CLOCK].into());
             for grade in (0..shape.g()).filter(|_| entered > 1) {
                 let mut block = halves(book, grade);
                 let other = 1 - shape.parity(clock.into());

@@ -1,7 +1,7 @@
 //! Lines that are no calls: each way in which a line can fail to read, made from the line of a
 //! call or from nothing. A few of them read after all, as another call.
 
-use reference::random::Random;
+use draw::random::Random;
 
 /// Bytes that some readers take for a space, for the end of a line or for nothing.
 const BLANKS: [&[u8]; 9] = [

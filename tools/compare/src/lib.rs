@@ -4,14 +4,10 @@
 #![forbid(unsafe_code)]
 #![warn(missing_docs)]
 
-pub mod calls;
+pub mod command;
 pub mod difference;
 pub mod hostile;
-pub mod options;
-pub mod pace;
 pub mod plan;
 pub mod program;
 pub mod run;
 pub mod script;
-pub mod shapes;
-pub mod tally;

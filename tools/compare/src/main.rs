@@ -3,23 +3,30 @@
 use std::io;
 use std::path::PathBuf;
 use std::process::{self, ExitCode};
+use std::time::Duration;
 use std::{env, fs};
 
-use compare::options::{Options, USAGE};
-use compare::program::program_output;
+use compare::command::{Options, USAGE};
+use compare::program::{output_one_by_one, program_output};
 use compare::run::{reference_output, run, Failure, Summary};
+use draw::tally::verdict;
 
-const USAGE_ERROR: u8 = 2;
+/// How long a program has for one answer. It needs no more than milliseconds, also on a slow machine,
+/// but others may be busy there.
+const PATIENCE: Duration = Duration::from_secs(20);
 
 fn main() -> ExitCode {
-    let options = match Options::parse(env::args_os().skip(1)) {
-        Ok(options) => options,
-        Err(trouble) => {
-            eprintln!("{trouble}\n\n{USAGE}");
-            return ExitCode::from(USAGE_ERROR);
+    options::main(USAGE, Options::read, compare)
+}
+
+fn compare(options: Options) -> ExitCode {
+    let program = |script: &[u8]| {
+        if options.one_by_one {
+            output_one_by_one(&options.program, script, PATIENCE)
+        } else {
+            program_output(&options.program, script)
         }
     };
-    let program = |script: &[u8]| program_output(&options.program, script);
     match run(options.plan(), reference_output, program) {
         Ok(summary) => report_summary(&options, &summary),
         Err(failure) => report_failure(&options, &failure),
@@ -27,18 +34,19 @@ fn main() -> ExitCode {
 }
 
 fn report_summary(options: &Options, summary: &Summary) -> ExitCode {
-    let (seed, scripts, tally) = (options.seed, summary.scripts, &summary.tally);
-    let lines = tally.lines();
-    println!("seed {seed}: {scripts} scripts, {lines} lines, all equal; {tally}");
-    let faults = tally.faults();
-    for fault in &faults {
-        eprintln!("{fault}");
-    }
-    if faults.is_empty() {
-        ExitCode::SUCCESS
+    let (seed, tally) = (options.seed, &summary.tally);
+    let scripts = match summary.scripts {
+        1 => "1 script".to_string(),
+        scripts => format!("{scripts} scripts"),
+    };
+    let how = if options.one_by_one {
+        " one by one"
     } else {
-        ExitCode::FAILURE
-    }
+        ""
+    };
+    let lines = tally.total();
+    println!("seed {seed}: {scripts}, {lines} lines{how}, all equal; {tally}");
+    verdict(&tally.faults())
 }
 
 fn report_failure(options: &Options, failure: &Failure) -> ExitCode {

@@ -1,6 +1,6 @@
 //! Which scripts a run consists of: how many, how long, from which seeds.
 
-use reference::random::Random;
+use draw::random::Random;
 
 use crate::script::script;
 

@@ -4,7 +4,7 @@ mod replay;
 
 use std::collections::BTreeMap;
 
-use compare::options::Options;
+use compare::command::Options;
 use reference::calls::{Answer, Call};
 use reference::shape::Shape;
 

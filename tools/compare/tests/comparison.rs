@@ -1,10 +1,9 @@
 //! The comparison: equal sides pass, and a side that is wrong in one small way is caught.
 
+use compare::command::Options;
 use compare::difference::{content, first_difference, lines, Difference};
-use compare::options::Options;
 use compare::plan::Plan;
-use compare::run::{reference_output, run, Failure};
-use compare::tally::Tally;
+use compare::run::{reference_output, run, Failure, Summary};
 use reference::protocol::parse;
 
 fn usual() -> Options {
@@ -29,7 +28,7 @@ fn misread(script: &[u8], read: impl Fn(&[u8]) -> Vec<u8>) -> Vec<u8> {
 fn reference_equals_itself_and_shows_every_kind() {
     let summary = run(usual().plan(), reference_output, reference_output).unwrap();
     assert_eq!(summary.scripts, usual().scripts);
-    assert_eq!(summary.tally.lines(), usual().lines);
+    assert_eq!(summary.tally.total(), usual().lines);
     assert_eq!(summary.tally.faults(), Vec::<String>::new());
 }
 
@@ -44,10 +43,10 @@ fn lines_that_are_read_as_themselves_change_nothing() {
 #[test]
 fn one_long_script_shows_every_kind_as_well() {
     for script in (0..2).flat_map(|seed| Plan::new(seed, 20_000, 1)) {
-        let mut tally = Tally::default();
-        lines(&reference_output(&script)).for_each(|answer| tally.add(answer));
-        assert_eq!(tally.lines(), 20_000);
-        assert_eq!(tally.faults(), Vec::<String>::new(), "{tally}");
+        let mut summary = Summary::new();
+        summary.add(&reference_output(&script));
+        assert_eq!(summary.tally.total(), 20_000);
+        assert_eq!(summary.tally.faults(), Vec::<String>::new());
     }
 }
 

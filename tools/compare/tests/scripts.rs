@@ -1,12 +1,10 @@
 //! What the scripts of the usual run contain: lines, lengths and ends.
 
+use compare::command::Options;
 use compare::difference::{content, lines};
-use compare::options::Options;
 use compare::plan::Plan;
 use compare::script::script;
-use compare::shapes;
 use reference::protocol::parse;
-use reference::random::Random;
 
 fn usual_scripts() -> Vec<Vec<u8>> {
     Options::usual("program".into()).plan().collect()
@@ -43,19 +41,6 @@ fn some_scripts_are_empty_and_some_end_without_a_newline() {
         all - ended - empty >= all / 6,
         "{ended} and {empty} of {all}"
     );
-}
-
-#[test]
-fn makes_are_accepted_or_refused_as_asked() {
-    let random = &mut Random::new(11);
-    let mut current = None;
-    for _ in 0..2_000 {
-        let numbers = shapes::accepted(random, current);
-        current = shapes::fitting(numbers);
-        assert!(current.is_some(), "{numbers:?}");
-        let numbers = shapes::refused(random);
-        assert_eq!(shapes::fitting(numbers), None, "{numbers:?}");
-    }
 }
 
 /// A way to be unread.

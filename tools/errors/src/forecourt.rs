@@ -1,9 +1,9 @@
-//! Realistic orders: cars come in bursts at the hours of the day, reports mostly at once.
+//! Orders of a forecourt: cars come in bursts at the hours of the day, reports mostly at once.
 
-use reference::random::Random;
+use draw::random::Random;
 
 use crate::observe::TICKS;
-use crate::order::{windows, Manner, Order, Step};
+use crate::order::{windows, Kind, Order, Step};
 
 const HOUR: u32 = 3600;
 const DAY: u32 = 24 * HOUR;
@@ -92,7 +92,7 @@ fn arriving(name: &'static str, random: &mut Random, reports: &[Report]) -> Orde
     }
     Order {
         name,
-        manner: Manner::Realistic,
+        kind: Kind::Forecourt,
         books: vec![steps],
     }
 }

@@ -5,9 +5,9 @@
 #![warn(missing_docs)]
 
 pub mod forecourt;
-pub mod hostile;
 pub mod observe;
 pub mod order;
 pub mod picture;
 pub mod scale;
 pub mod table;
+pub mod unusual;

@@ -1,25 +1,29 @@
-//! Writes the picture of the observed errors and prints the greatest of each order.
+//! Writes the picture of the observed errors, and prints the greatest of each order and how many
+//! answers were exact.
 
+use std::ffi::OsString;
+use std::fs;
 use std::process::ExitCode;
-use std::{env, fs};
 
 use errors::observe::{observe, Observed};
 use errors::order::Order;
 use errors::picture::svg;
-use errors::{forecourt, hostile, table};
+use errors::{forecourt, table, unusual};
 
-const USAGE: &str = "usage: errors PICTURE.svg";
-const USAGE_ERROR: u8 = 2;
+const USAGE: &str = "\
+usage: errors PICTURE
+
+Feeds books of the site shape in several orders, compares their answers with the exact ledger's,
+prints a table and writes a picture of the errors, as SVG.";
 
 fn main() -> ExitCode {
-    let arguments: Vec<_> = env::args_os().skip(1).collect();
-    let [path] = arguments.as_slice() else {
-        eprintln!("{USAGE}");
-        return ExitCode::from(USAGE_ERROR);
-    };
+    options::main(USAGE, |words| words.operands(["PICTURE"]), draw)
+}
+
+fn draw([path]: [OsString; 1]) -> ExitCode {
     let drawn = run().and_then(|observed| {
-        let written = fs::write(path, svg(&observed));
-        written.map_err(|error| format!("{}: {error}", path.to_string_lossy()))
+        let written = fs::write(&path, svg(&observed));
+        written.map_err(|error| format!("{}: {error}", path.display()))
     });
     match drawn {
         Ok(()) => ExitCode::SUCCESS,
@@ -34,13 +38,13 @@ fn run() -> Result<Vec<(Order, Observed)>, String> {
     let orders = [
         forecourt::prompt(1),
         forecourt::hourly(2),
-        hostile::uniform(3),
-        hostile::reverse(4),
-        hostile::late(5),
-        hostile::inwards(6),
-        hostile::heavy_tick(7),
-        hostile::extremes(8),
-        hostile::aimed(9),
+        unusual::uniform(3),
+        unusual::reverse(4),
+        unusual::late(5),
+        unusual::inwards(6),
+        unusual::heavy_tick(7),
+        unusual::extremes(8),
+        unusual::aimed(9),
     ];
     println!("{}", table::head());
     let mut all = Vec::new();
@@ -53,5 +57,6 @@ fn run() -> Result<Vec<(Order, Observed)>, String> {
         }
         all.push((order, observed));
     }
+    println!("\n{}", table::shares(&all));
     Ok(all)
 }

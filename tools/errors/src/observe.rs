@@ -1,13 +1,13 @@
 //! Runs an order through the static library and the exact ledger.
 
+use draw::calls::call_of;
+use draw::shapes::within;
+pub use draw::shapes::SITE;
 use reference::calls::{Answer, Call};
 use reference::ledger::Ledger;
-use reference::shape::Shape;
 
 use crate::order::{Order, Step};
 
-/// The site shape: k, n, M, g.
-pub const SITE: [u32; 4] = [20, 441, 24, 1];
 /// Ticks of an interval.
 pub const TICKS: u32 = 1 << SITE[0];
 /// Decilitres that an interval keeps.
@@ -60,10 +60,9 @@ impl Observed {
         self.observations.iter().copied().max_by(by_error)
     }
 
-    /// How many answers were exact.
-    pub fn exact(&self) -> usize {
-        let exact = |o: &&Observation| o.truth == o.answer;
-        self.observations.iter().filter(exact).count()
+    /// The answers to windows that have a delivery. The others are 0, which says nothing.
+    pub fn telling(&self) -> impl Iterator<Item = &Observation> {
+        self.observations.iter().filter(|o| o.truth > 0)
     }
 }
 
@@ -90,34 +89,36 @@ struct Site {
 
 impl Site {
     fn new() -> Result<Site, String> {
-        let [k, n, m, g] = SITE;
-        let shape = Shape::new(k, n, m, g).ok_or("the site shape is within its limits")?;
-        let mut book = vec![0; litres::words(k, n, m, g).ok_or("no length for the site shape")?];
-        litres::make(&mut book, k, n, m, g).map_err(|refused| refused.to_string())?;
-        let ledger = Ledger::new(shape);
-        Ok(Site { book, ledger })
+        let shape = within(SITE);
+        let mut site = Site {
+            book: vec![0; shape.book_length()],
+            ledger: Ledger::new(shape),
+        };
+        site.accepted(call_of(SITE))?;
+        Ok(site)
     }
 
     fn step(&mut self, step: &Step, observed: &mut Observed) -> Result<(), String> {
         match step {
-            Step::Clock(clock) => {
-                let answer = litres::clock(&mut self.book, *clock).map(|()| Answer::Done);
-                self.agree(Call::Clock { clock: *clock }, answer)?;
+            &Step::Clock(clock) => {
+                self.accepted(Call::Clock { clock })?;
             }
             &Step::Delivery { stamp, volume } => {
-                let answer = litres::delivery(&mut self.book, 0, stamp, volume);
-                let call = Call::Delivery {
-                    grade: 0,
+                let grade = 0;
+                self.accepted(Call::Delivery {
+                    grade,
                     stamp,
                     volume,
-                };
-                self.agree(call, answer.map(|()| Answer::Done))?;
+                })?;
                 observed.deliveries += 1;
             }
             Step::Ask(windows) => {
                 for &window in windows {
-                    let answer = litres::query(&self.book, 0, window).map_err(|r| r.to_string())?;
-                    let truth = self.ledger.window_sum(0, window);
+                    let answers = self.accepted(Call::Query { grade: 0, window })?;
+                    let [answer, truth] = answers.map(|answer| match answer {
+                        Answer::Sum(sum) => sum,
+                        Answer::Done => 0,
+                    });
                     observed.observations.push(Observation {
                         window,
                         truth,
@@ -129,12 +130,14 @@ impl Site {
         Ok(())
     }
 
-    /// Both must accept: the orders hold nothing that is refused.
-    fn agree(&mut self, call: Call, answer: Result<Answer, litres::Refused>) -> Result<(), String> {
+    /// The library's answer and the ledger's. Both must accept: the orders hold nothing that is
+    /// refused.
+    fn accepted(&mut self, call: Call) -> Result<[Answer; 2], String> {
+        let found = archive::perform(&mut self.book, call);
         let expected = self.ledger.perform(call, self.book.len());
-        match (answer, expected) {
-            (Ok(_), Ok(_)) => Ok(()),
-            (answer, expected) => Err(format!("{call:?}: {answer:?}, ledger {expected:?}")),
+        match (found, expected) {
+            (Ok(found), Ok(expected)) => Ok([found, expected]),
+            _ => Err(format!("{call:?}: {found:?}, ledger {expected:?}")),
         }
     }
 }

@@ -1,6 +1,6 @@
 //! An arrival order: what is told to a book, and when it is asked.
 
-use reference::random::Random;
+use draw::random::Random;
 
 use crate::observe::TICKS;
 
@@ -20,21 +20,45 @@ pub enum Step {
     Ask(Vec<u32>),
 }
 
-/// Whether deliveries come as a forecourt sends them.
+/// What kind of order it is.
 #[derive(Clone, Copy, Debug, PartialEq, Eq)]
-pub enum Manner {
-    /// As a forecourt does.
-    Realistic,
-    /// To do harm.
-    Hostile,
+pub enum Kind {
+    /// As a forecourt reports its cars.
+    Forecourt,
+    /// Anywhere, at random.
+    Random,
+    /// By a rule that no forecourt follows.
+    Pattern,
+    /// Chosen to make the error as large as can be.
+    Adversarial,
+}
+
+impl Kind {
+    /// Every kind.
+    pub const ALL: [Kind; 4] = [
+        Kind::Forecourt,
+        Kind::Random,
+        Kind::Pattern,
+        Kind::Adversarial,
+    ];
+
+    /// What the picture and the table call it.
+    pub fn name(self) -> &'static str {
+        match self {
+            Kind::Forecourt => "as a forecourt reports",
+            Kind::Random => "at random",
+            Kind::Pattern => "by an unusual pattern",
+            Kind::Adversarial => "aimed at the bound",
+        }
+    }
 }
 
 /// A named order, over one book or several.
 pub struct Order {
     /// What the picture and the table call it.
     pub name: &'static str,
-    /// How its deliveries come.
-    pub manner: Manner,
+    /// Its kind.
+    pub kind: Kind,
     /// The steps of each book, which starts empty.
     pub books: Vec<Vec<Step>>,
 }

@@ -5,20 +5,22 @@ use std::collections::BTreeSet;
 use std::fmt::Write;
 
 use crate::observe::{Observed, BOUND, SITE};
-use crate::order::{Manner, Order};
+use crate::order::{Kind, Order};
 use crate::scale::Scale;
-use crate::table::percent;
+use crate::table::{percent, Share};
 
 const COLUMNS: usize = 3;
-/// From one panel's corner to the next one's.
-const STRIDE: (f64, f64) = (370.0, 262.0);
 /// The corner of the first panel.
-const ORIGIN: (f64, f64) = (78.0, 130.0);
+const ORIGIN: (f64, f64) = (96.0, 186.0);
+/// From one panel's corner to the next one's: the panel and its labels beside, above and below.
+const STRIDE: (f64, f64) = (400.0, 306.0);
+/// What is left free to the right of the last panel and below the labels of the last row.
+const MARGIN: (f64, f64) = (24.0, 50.0);
 const WIDTH: f64 = 310.0;
-const HEIGHT: f64 = 170.0;
+const HEIGHT: f64 = 190.0;
 /// Below the log scale, where exact answers lie.
-const EXACT_ROW: f64 = 184.0;
-const PANEL: f64 = 194.0;
+const EXACT_ROW: f64 = 204.0;
+const PANEL: f64 = 214.0;
 
 /// Smaller sums, which are all exact in practice, stand at the left end.
 const SUMS: Scale = Scale {
@@ -48,35 +50,37 @@ const ERROR_MARKS: [(f64, &str); 6] = [
     (1e-6, "0.0001 %"),
 ];
 
-const REALISTIC: &str = "#1f6fb2";
-const HOSTILE: &str = "#c8611a";
 const BOUND_COLOUR: &str = "#b00020";
+const BOUND_STROKE: &str = "stroke-width=\"1.6\" stroke-dasharray=\"7 4\"";
+const STRIP_COLOUR: &str = "#eee";
+
+fn colour(kind: Kind) -> &'static str {
+    match kind {
+        Kind::Forecourt => "#1f6fb2",
+        Kind::Random => "#2e8b57",
+        Kind::Pattern => "#c8611a",
+        Kind::Adversarial => "#7b3fa0",
+    }
+}
 
 /// The whole picture as SVG.
 pub fn svg(observed: &[(Order, Observed)]) -> String {
     let rows = observed.len().div_ceil(COLUMNS);
-    let width = ORIGIN.0 + COLUMNS as f64 * STRIDE.0 - 30.0;
-    let height = ORIGIN.1 + rows as f64 * STRIDE.1 + 4.0;
-    let mut svg = String::new();
-    let _ = writeln!(
-        svg,
+    let right = ORIGIN.0 + (COLUMNS - 1) as f64 * STRIDE.0 + WIDTH;
+    let bottom = ORIGIN.1 + rows.saturating_sub(1) as f64 * STRIDE.1 + PANEL;
+    let (width, height) = (right + MARGIN.0, bottom + MARGIN.1);
+    let mut svg = format!(
         "<svg xmlns=\"http://www.w3.org/2000/svg\" viewBox=\"0 0 {width} {height}\" \
-         font-family=\"sans-serif\" font-size=\"11\" fill=\"#222\">"
+         font-family=\"sans-serif\" font-size=\"11\" fill=\"#222\">\n\
+         <rect width=\"{width}\" height=\"{height}\" fill=\"#fff\"/>\n"
     );
-    let _ = writeln!(
-        svg,
-        "<rect width=\"{width}\" height=\"{height}\" fill=\"#fff\"/>"
-    );
-    svg.push_str(&heading());
+    svg.push_str(&heading(observed));
     svg.push_str(&legend());
     for (number, (order, seen)) in observed.iter().enumerate() {
         let x = ORIGIN.0 + (number % COLUMNS) as f64 * STRIDE.0;
         let y = ORIGIN.1 + (number / COLUMNS) as f64 * STRIDE.1;
         let _ = writeln!(svg, "<g transform=\"translate({x} {y})\">");
         svg.push_str(&axes());
-        if number % COLUMNS == 0 {
-            svg.push_str(&error_title());
-        }
         svg.push_str(&panel(order, seen));
         svg.push_str("</g>\n");
     }
@@ -84,37 +88,47 @@ pub fn svg(observed: &[(Order, Observed)]) -> String {
     svg
 }
 
-fn heading() -> String {
+fn heading(observed: &[(Order, Observed)]) -> String {
     let [k, n, m, _] = SITE;
+    let share = Share::of(observed.iter().map(|(_, seen)| seen));
     format!(
-        "<text x=\"20\" y=\"34\" font-size=\"20\" font-weight=\"bold\">Relative error of the \
+        "<text x=\"20\" y=\"36\" font-size=\"20\" font-weight=\"bold\">Relative error of the \
          answers, observed and proved</text>\n\
-         <text x=\"20\" y=\"56\" font-size=\"13\">Site shape: k = {k}, n = {n}, M = {m}. Each dot \
-         is one or more answered questions; both scales are logarithmic.</text>\n"
+         <text x=\"20\" y=\"60\" font-size=\"13\">Books of the site shape, k = {k}, n = {n}, M = {m}. \
+         Each panel is an order in which deliveries arrive, each dot one answered question or \
+         several.</text>\n\
+         <text x=\"20\" y=\"79\" font-size=\"13\">{} of all answers to windows with a delivery are \
+         exact.</text>\n",
+        share.in_percent()
     )
 }
 
+/// Two rows: what the colours are, and what else is drawn.
 fn legend() -> String {
     let (part, whole) = BOUND;
     let bound = 100.0 * part as f64 / whole as f64;
-    let dot = |x: u32, colour: &str, text: &str| {
-        format!(
-            "<circle cx=\"{x}\" cy=\"79\" r=\"4\" fill=\"{colour}\"/>\
-             <text x=\"{}\" y=\"83\" font-size=\"13\">{text}</text>\n",
-            x + 10
-        )
-    };
-    let mut legend = dot(26, REALISTIC, "realistic order");
-    legend.push_str(&dot(158, HOSTILE, "hostile order"));
+    let mut legend = String::new();
+    let mut x = 20.0;
+    for kind in Kind::ALL {
+        let name = kind.name();
+        let _ = writeln!(
+            legend,
+            "<circle cx=\"{:.0}\" cy=\"103\" r=\"4\" fill=\"{}\"/>\
+             <text x=\"{:.0}\" y=\"107\" font-size=\"13\">{name}</text>",
+            x + 4.0,
+            colour(kind),
+            x + 14.0
+        );
+        x += 14.0 + 7.2 * name.len() as f64 + 18.0;
+    }
     let _ = writeln!(
         legend,
-        "<path d=\"M272 79h34\" stroke=\"{BOUND_COLOUR}\" stroke-width=\"2\" \
-         stroke-dasharray=\"7 4\"/><text x=\"314\" y=\"83\" font-size=\"13\">proved bound \
-         2(k+1)/(n-k-1) = {bound} %</text>\
-         <rect x=\"582\" y=\"73\" width=\"30\" height=\"12\" fill=\"#eee\"/>\
-         <text x=\"620\" y=\"83\" font-size=\"13\">exact answers</text>\
-         <circle cx=\"738\" cy=\"79\" r=\"5\" fill=\"none\" stroke=\"#222\" stroke-width=\"1.5\"/>\
-         <text x=\"750\" y=\"83\" font-size=\"13\">greatest error of the order</text>"
+        "<path d=\"M20 125h34\" stroke=\"{BOUND_COLOUR}\" {BOUND_STROKE}/>\
+         <text x=\"62\" y=\"129\" font-size=\"13\">proved bound, 2(k+1)/(n-k-1) = {bound} %</text>\
+         <circle cx=\"353\" cy=\"125\" r=\"5\" fill=\"none\" stroke=\"#222\" stroke-width=\"1.5\"/>\
+         <text x=\"366\" y=\"129\" font-size=\"13\">greatest error of the order</text>\
+         <rect x=\"580\" y=\"119\" width=\"30\" height=\"12\" fill=\"{STRIP_COLOUR}\"/>\
+         <text x=\"618\" y=\"129\" font-size=\"13\">exact answers</text>"
     );
     legend
 }
@@ -130,8 +144,8 @@ fn axes() -> String {
     let band = PANEL - top;
     let _ = writeln!(
         axes,
-        "<rect y=\"{top}\" width=\"{WIDTH}\" height=\"{band}\" fill=\"#eee\"/>\
-         <text x=\"-6\" y=\"{:.1}\" text-anchor=\"end\">0</text>",
+        "<rect y=\"{top}\" width=\"{WIDTH}\" height=\"{band}\" fill=\"{STRIP_COLOUR}\"/>\
+         <text x=\"-6\" y=\"{:.1}\" text-anchor=\"end\">exact</text>",
         EXACT_ROW + 4.0
     );
     for (error, text) in ERROR_MARKS {
@@ -149,51 +163,41 @@ fn axes() -> String {
             axes,
             "<path d=\"M{x:.1} 0v{PANEL}\" stroke=\"#ddd\"/>\
              <text x=\"{x:.1}\" y=\"{:.1}\" text-anchor=\"middle\">{text}</text>",
-            PANEL + 14.0
+            PANEL + 15.0
         );
     }
     let _ = writeln!(
         axes,
         "<rect width=\"{WIDTH}\" height=\"{PANEL}\" fill=\"none\" stroke=\"#888\"/>\
-         <text x=\"{:.1}\" y=\"{:.1}\" text-anchor=\"middle\">true sum, decilitres</text>",
+         <text x=\"{:.1}\" y=\"{:.1}\" text-anchor=\"middle\">true sum, decilitres</text>\
+         <text transform=\"translate(-68 {:.1}) rotate(-90)\" text-anchor=\"middle\">relative \
+         error</text>",
         WIDTH / 2.0,
-        PANEL + 30.0
+        PANEL + 32.0,
+        HEIGHT / 2.0
     );
     axes
 }
 
-/// Beside the first panel of a row; the others have the same scale.
-fn error_title() -> String {
-    let middle = HEIGHT / 2.0;
-    format!(
-        "<text transform=\"translate(-62 {middle:.1}) rotate(-90)\" \
-         text-anchor=\"middle\">relative error</text>\n"
-    )
-}
-
 fn panel(order: &Order, observed: &Observed) -> String {
-    let colour = match order.manner {
-        Manner::Realistic => REALISTIC,
-        Manner::Hostile => HOSTILE,
-    };
     let mut panel = String::new();
     let _ = writeln!(
         panel,
-        "<path d=\"{}\" stroke=\"{colour}\" stroke-width=\"2.4\" stroke-linecap=\"round\" \
-         fill=\"none\"/>",
-        dots(observed)
+        "<path d=\"{}\" stroke=\"{}\" stroke-width=\"2.4\" stroke-linecap=\"round\" fill=\"none\"/>",
+        dots(observed),
+        colour(order.kind)
     );
     let (part, whole) = BOUND;
     let _ = writeln!(
         panel,
-        "<path d=\"M0 {:.1}h{WIDTH}\" stroke=\"{BOUND_COLOUR}\" stroke-width=\"2\" \
-         stroke-dasharray=\"7 4\"/>",
+        "<path d=\"M0 {:.1}h{WIDTH}\" stroke=\"{BOUND_COLOUR}\" {BOUND_STROKE}/>",
         error_y(part as f64 / whole as f64)
     );
-    let mut greatest = "no answers".to_string();
+    let mut figures = "no answers".to_string();
     if let Some(worst) = observed.worst() {
         let error = worst.relative_error();
-        greatest = format!("greatest {}", percent(error));
+        let share = Share::of([observed]).in_percent();
+        figures = format!("greatest error {}, {share} exact", percent(error));
         if error > 0.0 {
             let _ = writeln!(
                 panel,
@@ -206,8 +210,8 @@ fn panel(order: &Order, observed: &Observed) -> String {
     }
     let _ = writeln!(
         panel,
-        "<text y=\"-8\" font-size=\"13\" font-weight=\"bold\">{}</text>\
-         <text x=\"{WIDTH}\" y=\"-8\" font-size=\"12\" text-anchor=\"end\">{greatest}</text>",
+        "<text y=\"-25\" font-size=\"13\" font-weight=\"bold\">{}</text>\
+         <text y=\"-9\" font-size=\"12\">{figures}</text>",
         order.name
     );
     panel
@@ -216,9 +220,7 @@ fn panel(order: &Order, observed: &Observed) -> String {
 /// One mark for each pixel that some answer lies on.
 fn dots(observed: &Observed) -> String {
     let pixels: BTreeSet<(i64, i64)> = observed
-        .observations
-        .iter()
-        .filter(|observation| observation.truth > 0)
+        .telling()
         .map(|observation| {
             let error = observation.relative_error();
             let y = if error == 0.0 {

@@ -1,21 +1,54 @@
-//! The greatest error of each order, as text.
+//! The greatest error and the exact answers of each order, as text.
 
 use crate::observe::Observed;
-use crate::order::Order;
+use crate::order::{Kind, Order};
+
+/// How many of some answers are exact. Answers to windows without a delivery, which are 0, do not
+/// count.
+#[derive(Clone, Copy, Debug, PartialEq, Eq)]
+pub struct Share {
+    /// The exact ones.
+    pub exact: usize,
+    /// All of them.
+    pub answers: usize,
+}
+
+impl Share {
+    /// The share of what some orders showed.
+    pub fn of<'a>(observed: impl IntoIterator<Item = &'a Observed>) -> Share {
+        let mut share = Share {
+            exact: 0,
+            answers: 0,
+        };
+        for observation in observed.into_iter().flat_map(Observed::telling) {
+            share.answers += 1;
+            share.exact += usize::from(observation.truth == observation.answer);
+        }
+        share
+    }
+
+    /// In whole percent.
+    pub fn in_percent(self) -> String {
+        let part = 100.0 * self.exact as f64 / self.answers.max(1) as f64;
+        format!("{part:.0} %")
+    }
+}
 
 /// The head of the table.
 pub fn head() -> String {
     let columns = ["order", "deliveries", "answers", "exact", "greatest error"];
     let [order, deliveries, answers, exact, error] = columns;
     let at = "at window, true sum";
-    format!("{order:28} {deliveries:>10} {answers:>8} {exact:>8} {error:>15}  {at}")
+    format!("{order:36} {deliveries:>10} {answers:>8} {exact:>14} {error:>15}  {at}")
 }
 
 /// The row of an order.
 pub fn row(order: &Order, observed: &Observed) -> String {
     let (name, deliveries) = (order.name, observed.deliveries);
-    let (answers, exact) = (observed.observations.len(), observed.exact());
-    let start = format!("{name:28} {deliveries:>10} {answers:>8} {exact:>8}");
+    let start = format!(
+        "{name:36} {deliveries:>10} {}",
+        counts(Share::of([observed]))
+    );
     match observed.worst() {
         None => start,
         Some(worst) => {
@@ -24,6 +57,25 @@ pub fn row(order: &Order, observed: &Observed) -> String {
             format!("{start} {error:>15}  {window} s, {truth} dl")
         }
     }
+}
+
+/// The shares of each kind of order, and of all orders.
+pub fn shares(all: &[(Order, Observed)]) -> String {
+    let of = |included: &dyn Fn(&Order) -> bool| {
+        let chosen = all.iter().filter(|(order, _)| included(order));
+        counts(Share::of(chosen.map(|(_, observed)| observed)))
+    };
+    let row = |name: &str, counts: String| format!("{name:47} {counts}\n");
+    let mut shares = String::new();
+    for kind in Kind::ALL {
+        shares += &row(kind.name(), of(&|order| order.kind == kind));
+    }
+    shares + &row("all orders", of(&|_| true))
+}
+
+fn counts(share: Share) -> String {
+    let (answers, exact, percent) = (share.answers, share.exact, share.in_percent());
+    format!("{answers:>8} {exact:>7}, {percent:>5}")
 }
 
 /// A part of one, in percent with three figures.

@@ -1,10 +1,9 @@
-//! The observations, the orders and the picture.
+//! The observations, the orders and the table.
 
+use draw::random::Random;
 use errors::observe::{observe, Observation, Observed, BOUND, TICKS};
-use errors::order::{windows, Manner, Order, Step};
-use errors::picture::svg;
-use errors::{forecourt, hostile, table};
-use reference::random::Random;
+use errors::order::{windows, Kind, Order, Step};
+use errors::{forecourt, table, unusual};
 
 fn observation(truth: u64, answer: u64) -> Observation {
     Observation {
@@ -57,13 +56,13 @@ fn orders_are_long_and_repeatable() {
     let makers: [fn(u64) -> Order; 9] = [
         forecourt::prompt,
         forecourt::hourly,
-        hostile::uniform,
-        hostile::reverse,
-        hostile::late,
-        hostile::inwards,
-        hostile::heavy_tick,
-        hostile::extremes,
-        hostile::aimed,
+        unusual::uniform,
+        unusual::reverse,
+        unusual::late,
+        unusual::inwards,
+        unusual::heavy_tick,
+        unusual::extremes,
+        unusual::aimed,
     ];
     for make in makers {
         let order = make(1);
@@ -75,7 +74,7 @@ fn orders_are_long_and_repeatable() {
 
 #[test]
 fn aimed_comes_near_the_bound() {
-    let mut order = hostile::aimed(9);
+    let mut order = unusual::aimed(9);
     order.books.truncate(2);
     let observed = observe(&order).expect("library and ledger agree");
     assert!(observed.observations.iter().all(|o| o.within_bound()));
@@ -91,22 +90,23 @@ fn refused_steps_are_reported() {
     };
     let order = Order {
         name: "late",
-        manner: Manner::Hostile,
+        kind: Kind::Pattern,
         books: vec![vec![Step::Clock(TICKS + 1), late]],
     };
     let trouble = observe(&order).err().expect("a refusal");
-    assert!(trouble.contains("Refused(9)"), "{trouble}");
+    assert!(trouble.contains("Err(9)"), "{trouble}");
 }
 
-fn seen(name: &'static str, manner: Manner) -> (Order, Observed) {
+fn seen(name: &'static str, kind: Kind) -> (Order, Observed) {
     let observations = vec![
+        observation(0, 0),
         observation(10, 10),
         observation(1_000_000, 1_030_000),
         observation(2_000_000, 1_999_999),
     ];
     let order = Order {
         name,
-        manner,
+        kind,
         books: vec![],
     };
     let observed = Observed {
@@ -117,36 +117,34 @@ fn seen(name: &'static str, manner: Manner) -> (Order, Observed) {
 }
 
 #[test]
-fn the_table_names_the_worst() {
-    let (order, observed) = seen("calm", Manner::Realistic);
+fn the_table_names_the_worst_and_what_was_exact() {
+    let (order, observed) = seen("calm", Kind::Forecourt);
     let row = table::row(&order, &observed);
     let words: Vec<&str> = row.split_whitespace().collect();
-    let expected = "calm 3 3 1 3.00 % 60 s, 1000000 dl";
+    let expected = "calm 3 3 1, 33 % 3.00 % 60 s, 1000000 dl";
     assert_eq!(words.join(" "), expected);
 }
 
 #[test]
-fn the_picture_is_whole() {
-    let all = [
-        seen("calm", Manner::Realistic),
-        seen("storm", Manner::Hostile),
-    ];
-    let svg = svg(&all);
-    for text in ["calm", "storm", "greatest 3.00 %", "= 10 %", "true sum"] {
-        assert!(svg.contains(text), "{text}");
-    }
-    for tag in ["svg", "g", "text"] {
-        let opened =
-            svg.matches(&format!("<{tag}>")).count() + svg.matches(&format!("<{tag} ")).count();
-        assert_eq!(opened, svg.matches(&format!("</{tag}>")).count(), "{tag}");
-    }
-    for tag in ["<rect ", "<circle ", "<path "] {
-        for rest in svg.split(tag).skip(1) {
-            let end = rest.find('>').expect("an end");
-            assert!(rest[..end].ends_with('/'), "{tag}");
-        }
-    }
-    // Three answers on three pixels for each order.
-    assert_eq!(svg.matches("h0").count(), 6);
-    assert!(!svg.contains("NaN") && !svg.contains("inf"));
+fn exact_answers_are_shared_out_by_kind() {
+    let exact = Observed {
+        deliveries: 1,
+        observations: vec![observation(0, 0), observation(7, 7)],
+    };
+    let (random, _) = seen("drawn", Kind::Random);
+    let all = [seen("calm", Kind::Forecourt), (random, exact)];
+    let shares = table::shares(&all);
+    let rows: Vec<Vec<&str>> = shares
+        .lines()
+        .map(|line| line.split_whitespace().collect())
+        .collect();
+    let found = |name: &str| {
+        let name: Vec<&str> = name.split_whitespace().collect();
+        let row = rows.iter().find(|row| row.starts_with(&name)).unwrap();
+        row[name.len()..].join(" ")
+    };
+    assert_eq!(found(Kind::Forecourt.name()), "3 1, 33 %");
+    assert_eq!(found(Kind::Random.name()), "1 1, 100 %");
+    assert_eq!(found(Kind::Pattern.name()), "0 0, 0 %");
+    assert_eq!(found("all orders"), "4 2, 50 %");
 }

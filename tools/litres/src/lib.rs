@@ -1,8 +1,8 @@
-//! The proved calls of document 01 over a borrowed slice of words, for Rust.
+//! The proved calls over a borrowed slice of words, for Rust.
 //!
-//! The static library `capi` does all the work; here its C functions get Rust's types. A slice says
-//! that the words are there, aligned and used by nobody else, and a sum is returned by value, so it
-//! cannot lie within the book.
+//! The static library `capi` does all the work; here its C functions get Rust's types. A slice meets
+//! the conditions of `include/litres.h`: its words are there, aligned and used by nobody else. A sum
+//! is returned by value, so it cannot lie within the book. A refusal displays the header's text.
 //!
 //! ```
 //! let (k, n, m, g) = (2, 2, 4, 1);
@@ -21,6 +21,9 @@ mod archive;
 mod refused;
 
 pub use refused::Refused;
+
+/// The version of the library, `LITRES_VERSION` in `include/litres.h`.
+pub const VERSION: &str = env!("CARGO_PKG_VERSION");
 
 /// How many words a book of this shape needs; nothing where the shape is outside its limits.
 pub fn words(k: u32, n: u32, m: u32, g: u32) -> Option<usize> {
@@ -51,8 +54,8 @@ pub fn delivery(book: &mut [u32], grade: u32, stamp: u32, volume: u32) -> Result
     accepted(unsafe { archive::litres_delivery(words, len, grade, stamp, volume) })
 }
 
-/// The histogram's sum for a grade, in decilitres, from `window` ticks before the clock up to the clock: near the true sum, as
-/// the header says.
+/// The book's sum for a grade, in decilitres, from `window` ticks before the clock up to the clock.
+/// `include/litres.h` says how near it is to the true sum.
 pub fn query(book: &[u32], grade: u32, window: u32) -> Result<u64, Refused> {
     let mut sum = 0;
     // SAFETY: the pointer and the length are of one slice, shared and so not written by anybody

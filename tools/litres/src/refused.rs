@@ -1,36 +1,53 @@
-//! A refusal and its meaning in words.
+//! A refusal: its number, its name and its text, the same as in `include/litres.h`.
 
 use std::error::Error;
 use std::fmt::{self, Display, Formatter};
 
-/// A call was turned down under this number of document 01; no word of the book changed.
+/// A call was refused under this number; no word of the book changed.
 #[derive(Clone, Copy, Debug, PartialEq, Eq, Hash)]
 pub struct Refused(pub u32);
 
-impl Refused {
-    /// What the number means.
-    pub fn meaning(self) -> &'static str {
-        match self.0 {
-            1 => "shape outside its limits",
-            2 => "too few words for a head, or not as many as the shape needs",
-            3 => "no such grade",
-            4 => "volume 0 or above 65,535",
-            5 => "window longer than an interval",
-            6 => "new clock above 2,000,000,000",
-            7 => "head unsound",
-            8 => "stamp ahead of the clock",
-            9 => "late: stamp more than an interval behind the clock",
-            10 => "new clock below the clock",
-            11 => "block unsound",
-            12 => "interval full",
-            _ => "no refusal of document 01",
+macro_rules! refusals {
+    ($($number:literal $name:ident $text:literal;)*) => {
+        impl Refused {
+            $(
+                #[doc = concat!("Refusal ", $number, ": ", $text, ".")]
+                pub const $name: Refused = Refused($number);
+            )*
+
+            /// Every refusal with its name, in the order of the numbers.
+            pub const ALL: &'static [(Refused, &'static str)] =
+                &[$((Refused($number), stringify!($name)),)*];
+
+            /// What the number means, in words.
+            pub fn text(self) -> &'static str {
+                match self.0 {
+                    $($number => $text,)*
+                    _ => "no call returns this number",
+                }
+            }
         }
-    }
+    };
+}
+
+refusals! {
+    1 SHAPE "the shape is outside its limits";
+    2 LENGTH "the number of words is not what the shape needs";
+    3 GRADE "there is no such grade";
+    4 VOLUME "the volume is 0 or above 65535";
+    5 WINDOW "the window is longer than an interval";
+    6 CLOCK_LIMIT "the new clock is above 2000000000";
+    7 HEAD "the first 8 words are not the head of a book";
+    8 AHEAD "the stamp is ahead of the clock";
+    9 LATE "late: no window reaches back to the stamp any more";
+    10 CLOCK_BACK "the new clock is behind the clock";
+    11 BLOCK "a grade's words are damaged";
+    12 FULL "the interval has no room for the volume";
 }
 
 impl Display for Refused {
     fn fmt(&self, f: &mut Formatter<'_>) -> fmt::Result {
-        write!(f, "refused {}: {}", self.0, self.meaning())
+        f.write_str(self.text())
     }
 }
 

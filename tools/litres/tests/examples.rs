@@ -122,11 +122,3 @@ fn empty_slices() {
     assert_eq!(delivery(&mut [], 0, 0, 1), Err(Refused(2)));
     assert_eq!(query(&[], 0, 0), Err(Refused(2)));
 }
-
-#[test]
-fn refusals_in_words() {
-    assert_eq!(Refused(12).to_string(), "refused 12: interval full");
-    let meanings: std::collections::HashSet<_> =
-        (1..=13).map(|number| Refused(number).meaning()).collect();
-    assert_eq!(meanings.len(), 13);
-}

@@ -1,7 +1,7 @@
 //! The lengths of books beside the second program's, for shapes within the limits and outside.
 
+use draw::random::Random;
 use litres::words;
-use reference::random::Random;
 use reference::shape::Shape;
 
 fn assert_equal(k: u32, n: u32, m: u32, g: u32) {

@@ -3,6 +3,7 @@
 //! any more.
 
 use crate::histogram::Histogram;
+use crate::layout;
 use crate::refusal::{self, when};
 use crate::shape::Shape;
 use crate::soundness::{block_is_sound, sound_head};
@@ -54,8 +55,11 @@ pub enum Answer {
     Sum(u64),
 }
 
-/// Any call on these words; the error is the refusal number.
-pub fn perform(words: &mut [u32], call: Call) -> Result<Answer, u32> {
+/// The answer of a call, or the number of its refusal.
+pub type Reply = Result<Answer, u32>;
+
+/// Any call on these words.
+pub fn perform(words: &mut [u32], call: Call) -> Reply {
     match call {
         Call::Make { k, n, m, g } => make(words, k, n, m, g).map(|()| Answer::Done),
         Call::Clock { clock: new } => clock(words, new).map(|()| Answer::Done),
@@ -141,7 +145,7 @@ pub fn query(words: &[u32], grade: u32, window: u32) -> Result<u64, u32> {
 
 /// The refusals that clock, delivery and query share: too short for a head, head, length.
 fn open(words: &[u32]) -> Result<(Shape, u32), u32> {
-    when(words.len() < Shape::HEAD_WORDS, refusal::LENGTH)?;
+    when(words.len() < layout::HEAD_WORDS, refusal::LENGTH)?;
     let (shape, clock) = sound_head(decode_head(words)).ok_or(refusal::HEAD)?;
     when(words.len() != shape.book_length(), refusal::LENGTH)?;
     Ok((shape, clock))

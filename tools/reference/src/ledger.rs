@@ -1,7 +1,7 @@
 //! The exact ledger (document 01, "The ledger"). It is fed the calls and the number of words that
 //! each one borrows, never a word of a book, so that refusals 7 and 11 are unknown to it.
 
-use crate::calls::{Answer, Call};
+use crate::calls::{Answer, Call, Reply};
 use crate::refusal::{self, when};
 use crate::shape::Shape;
 
@@ -49,8 +49,8 @@ impl Ledger {
         &self.entries
     }
 
-    /// One call that borrows so many words; the error is the refusal number.
-    pub fn perform(&mut self, call: Call, borrowed: usize) -> Result<Answer, u32> {
+    /// One call that borrows so many words.
+    pub fn perform(&mut self, call: Call, borrowed: usize) -> Reply {
         match call {
             Call::Make { k, n, m, g } => {
                 let shape = Shape::new(k, n, m, g).ok_or(refusal::SHAPE)?;

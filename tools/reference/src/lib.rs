@@ -9,9 +9,9 @@
 
 pub mod calls;
 pub mod histogram;
+pub mod layout;
 pub mod ledger;
 pub mod protocol;
-pub mod random;
 pub mod refusal;
 pub mod shape;
 pub mod soundness;

@@ -2,11 +2,14 @@
 
 use std::io::{self, BufRead, Write};
 
-use crate::calls::{perform, Answer, Call};
+use crate::calls::{perform, Answer, Call, Reply};
 use crate::shape::Shape;
 
 /// Words of the program's buffer.
 pub const BUFFER_WORDS: usize = 14_836;
+
+/// The output line for an input line that is no call.
+pub const UNREAD: &str = "unread";
 
 /// The buffer and the shape of the last accepted make.
 pub struct Bench {
@@ -24,7 +27,7 @@ impl Bench {
     }
 
     /// One call on as many words as it is given.
-    pub fn perform(&mut self, call: Call) -> Result<Answer, u32> {
+    pub fn perform(&mut self, call: Call) -> Reply {
         let asked = match call {
             Call::Make { k, n, m, g } => Shape::new(k, n, m, g),
             _ => self.shape,
@@ -39,13 +42,9 @@ impl Bench {
 
     /// The output line for one input line, both without their newlines.
     pub fn line(&mut self, line: &[u8]) -> String {
-        let Some(call) = parse(line) else {
-            return "unread".to_string();
-        };
-        match self.perform(call) {
-            Ok(Answer::Done) => "ok".to_string(),
-            Ok(Answer::Sum(sum)) => format!("= {sum}"),
-            Err(number) => format!("refused {number}"),
+        match parse(line) {
+            Some(call) => answer(self.perform(call)),
+            None => UNREAD.to_string(),
         }
     }
 }
@@ -56,16 +55,40 @@ impl Default for Bench {
     }
 }
 
-/// Answers a whole input, line by line.
+/// Answers an input line by line, each answer as soon as its line has ended.
 pub fn run(mut input: impl BufRead, mut output: impl Write) -> io::Result<()> {
     let mut bench = Bench::new();
     let mut line = Vec::new();
     while input.read_until(b'\n', &mut line)? > 0 {
         let content = line.strip_suffix(b"\n").unwrap_or(&line);
         writeln!(output, "{}", bench.line(content))?;
+        output.flush()?;
         line.clear();
     }
-    output.flush()
+    Ok(())
+}
+
+/// The output line for the answer of a call.
+pub fn answer(reply: Reply) -> String {
+    match reply {
+        Ok(Answer::Done) => "ok".to_string(),
+        Ok(Answer::Sum(sum)) => format!("= {sum}"),
+        Err(number) => format!("refused {number}"),
+    }
+}
+
+/// The line of a call without its newline.
+pub fn line(call: Call) -> String {
+    match call {
+        Call::Make { k, n, m, g } => format!("m {k} {n} {m} {g}"),
+        Call::Clock { clock } => format!("c {clock}"),
+        Call::Delivery {
+            grade,
+            stamp,
+            volume,
+        } => format!("d {grade} {stamp} {volume}"),
+        Call::Query { grade, window } => format!("q {grade} {window}"),
+    }
 }
 
 /// The call of a line without its newline, or nothing where it does not read as one.

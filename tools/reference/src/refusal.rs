@@ -1,5 +1,7 @@
 //! The refusal numbers (document 01, "Turned down by the input" and "Turned down by the state").
 
+use std::ops::RangeInclusive;
+
 /// The shape is outside its limits.
 pub const SHAPE: u32 = 1;
 /// Fewer words than a head has, or another length than the shape's.
@@ -24,6 +26,9 @@ pub const CLOCK_BACK: u32 = 10;
 pub const BLOCK: u32 = 11;
 /// The interval cannot keep this volume as well.
 pub const FULL: u32 = 12;
+
+/// Every refusal.
+pub const ALL: RangeInclusive<u32> = SHAPE..=FULL;
 
 /// Refuses with `number` where `condition` holds.
 pub fn when(condition: bool, number: u32) -> Result<(), u32> {

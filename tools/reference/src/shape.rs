@@ -3,6 +3,8 @@
 
 use std::ops::Range;
 
+use crate::layout::{BLOCK_HEAD_WORDS, HEAD_WORDS, LEVEL_HEAD_WORDS, SLOT_WORDS};
+
 /// A shape within its limits.
 #[derive(Clone, Copy, Debug, PartialEq, Eq)]
 pub struct Shape {
@@ -34,15 +36,6 @@ impl Shape {
     /// Largest volume of one delivery.
     pub const VOLUME_MAX: u32 = 65_535;
 
-    /// Words of the head.
-    pub const HEAD_WORDS: usize = 8;
-    /// Words of a slot (document 01's place): offset, length, weight.
-    pub const SLOT_WORDS: usize = 3;
-    /// Words of a level before its slots: bucket count and first.
-    pub const LEVEL_HEAD_WORDS: usize = 2;
-    /// Words of a block before its levels: one total for each parity.
-    pub const BLOCK_HEAD_WORDS: usize = 2;
-
     /// The shape of these four numbers, or nothing where one is outside its limits.
     pub fn new(k: u32, n: u32, m: u32, g: u32) -> Option<Shape> {
         let within = (Self::K_MIN..=Self::K_MAX).contains(&k)
@@ -50,6 +43,11 @@ impl Shape {
             && (Self::M_MIN..=Self::M_MAX).contains(&m)
             && (Self::G_MIN..=Self::G_MAX).contains(&g);
         within.then_some(Shape { k, n, m, g })
+    }
+
+    /// k, n, M and g.
+    pub fn numbers(self) -> [u32; 4] {
+        [self.k, self.n, self.m, self.g]
     }
 
     /// The exponent of the interval.
@@ -104,29 +102,29 @@ impl Shape {
 
     /// Words of a level.
     pub fn level_length(self) -> usize {
-        Self::LEVEL_HEAD_WORDS + Self::SLOT_WORDS * self.n as usize
+        LEVEL_HEAD_WORDS + SLOT_WORDS * self.n as usize
     }
 
     /// Words of a grade's block.
     pub fn block_length(self) -> usize {
-        Self::BLOCK_HEAD_WORDS + 2 * self.levels() * self.level_length()
+        BLOCK_HEAD_WORDS + 2 * self.levels() * self.level_length()
     }
 
     /// Words of the whole book.
     pub fn book_length(self) -> usize {
-        Self::HEAD_WORDS + self.g as usize * self.block_length()
+        HEAD_WORDS + self.g as usize * self.block_length()
     }
 
     /// The words of a grade's block within the book.
     pub fn block(self, grade: u32) -> Range<usize> {
-        let start = Self::HEAD_WORDS + grade as usize * self.block_length();
+        let start = HEAD_WORDS + grade as usize * self.block_length();
         start..start + self.block_length()
     }
 
     /// The words of one level within a block.
     pub fn level(self, parity: usize, index: usize) -> Range<usize> {
         let before = parity * self.levels() + index;
-        let start = Self::BLOCK_HEAD_WORDS + before * self.level_length();
+        let start = BLOCK_HEAD_WORDS + before * self.level_length();
         start..start + self.level_length()
     }
 }

@@ -2,16 +2,17 @@
 //! book"). Decoding takes words of any content; whether they are sound is asked of what it gives.
 
 use crate::histogram::{Bucket, Histogram, Level};
+use crate::layout;
 use crate::shape::Shape;
 
-/// The eight words of a head as they stand.
+/// The words of a head as they stand.
 #[derive(Clone, Copy, Debug, PartialEq, Eq)]
 pub struct RawHead {
     /// k, n, M and g.
     pub shape: [u32; 4],
     /// The clock.
     pub clock: u32,
-    /// The last three words.
+    /// The words that should be zero.
     pub padding: [u32; 3],
 }
 
@@ -65,53 +66,54 @@ impl RawHistogram {
     }
 }
 
-/// Reads the head from at least eight words.
+/// Reads the head from at least as many words as it has.
 pub fn decode_head(words: &[u32]) -> RawHead {
     RawHead {
-        shape: [words[0], words[1], words[2], words[3]],
-        clock: words[4],
-        padding: [words[5], words[6], words[7]],
+        shape: words[layout::SHAPE].try_into().expect("four words"),
+        clock: words[layout::CLOCK],
+        padding: words[layout::PADDING].try_into().expect("three words"),
     }
 }
 
-/// Writes a head into the first eight words.
+/// Writes a head into the first words.
 pub fn encode_head(shape: Shape, clock: u32, words: &mut [u32]) {
-    let head = [shape.k(), shape.n(), shape.m(), shape.g(), clock, 0, 0, 0];
-    words[..Shape::HEAD_WORDS].copy_from_slice(&head);
+    words[layout::SHAPE].copy_from_slice(&shape.numbers());
+    words[layout::CLOCK] = clock;
+    words[layout::PADDING].fill(0);
 }
 
 /// Reads one level from exactly its words.
 pub fn decode_level(words: &[u32]) -> RawLevel {
-    let (head, slots) = words.split_at(Shape::LEVEL_HEAD_WORDS);
+    let (head, slots) = words.split_at(layout::LEVEL_HEAD_WORDS);
     let bucket = |slot: &[u32]| Bucket {
-        offset: slot[0].into(),
-        length: slot[1].into(),
-        weight: slot[2].into(),
+        offset: slot[layout::OFFSET].into(),
+        length: slot[layout::LENGTH].into(),
+        weight: number(&slot[layout::WEIGHT..]),
     };
     RawLevel {
-        count: head[0].into(),
-        first: head[1].into(),
-        slots: slots.chunks(Shape::SLOT_WORDS).map(bucket).collect(),
+        count: head[layout::COUNT].into(),
+        first: head[layout::FIRST].into(),
+        slots: slots.chunks(layout::SLOT_WORDS).map(bucket).collect(),
     }
 }
 
 /// Writes one level over exactly its words; slots without a bucket become zero.
 pub fn encode_level(level: &Level, words: &mut [u32]) {
     words.fill(0);
-    let (head, slots) = words.split_at_mut(Shape::LEVEL_HEAD_WORDS);
-    head[0] = word(level.buckets.len() as u64);
-    head[1] = word(level.first);
-    for (slot, bucket) in slots.chunks_mut(Shape::SLOT_WORDS).zip(&level.buckets) {
-        slot[0] = word(bucket.offset);
-        slot[1] = word(bucket.length);
-        slot[2] = word(bucket.weight);
+    let (head, slots) = words.split_at_mut(layout::LEVEL_HEAD_WORDS);
+    head[layout::COUNT] = word(level.buckets.len() as u64);
+    head[layout::FIRST] = word(level.first);
+    for (slot, bucket) in slots.chunks_mut(layout::SLOT_WORDS).zip(&level.buckets) {
+        slot[layout::OFFSET] = word(bucket.offset);
+        slot[layout::LENGTH] = word(bucket.length);
+        write(bucket.weight, &mut slot[layout::WEIGHT..]);
     }
 }
 
 /// Reads the even and the odd histogram from exactly the words of a block.
 pub fn decode_block(shape: Shape, words: &[u32]) -> [RawHistogram; 2] {
     [0, 1].map(|parity| RawHistogram {
-        total: words[parity].into(),
+        total: number(&words[layout::total(parity)]),
         levels: (0..shape.levels())
             .map(|index| decode_level(&words[shape.level(parity, index)]))
             .collect(),
@@ -121,14 +123,30 @@ pub fn decode_block(shape: Shape, words: &[u32]) -> [RawHistogram; 2] {
 /// Writes both histograms over exactly the words of a block.
 pub fn encode_block(shape: Shape, block: &[Histogram; 2], words: &mut [u32]) {
     for (parity, histogram) in block.iter().enumerate() {
-        words[parity] = word(histogram.total);
+        write(histogram.total, &mut words[layout::total(parity)]);
         for (index, level) in histogram.levels.iter().enumerate() {
             encode_level(level, &mut words[shape.level(parity, index)]);
         }
     }
 }
 
-/// Totals are at most 2^24 and bound every weight, so that each number of a book fits.
+/// The number of one or two words, the low one first.
+pub fn number(words: &[u32]) -> u64 {
+    let high_first = words.iter().rev();
+    high_first.fold(0, |number, word| number << 32 | u64::from(*word))
+}
+
+/// Writes a number over one or two words.
+fn write(number: u64, words: &mut [u32]) {
+    let mut rest = number;
+    for word in words {
+        *word = rest as u32;
+        rest >>= 32;
+    }
+    assert_eq!(rest, 0, "{number} does not fit its words");
+}
+
+/// Counts, offsets and lengths of a book are below 2^32.
 fn word(number: u64) -> u32 {
     u32::try_from(number).expect("a number of a book fits one word")
 }

@@ -2,6 +2,7 @@
 
 use reference::calls::{clock, deliver, make, query};
 use reference::histogram::Histogram;
+use reference::layout;
 use reference::shape::Shape;
 use reference::words::{decode_block, encode_block};
 
@@ -24,7 +25,7 @@ fn book() -> Vec<u32> {
 
 /// The words with a new clock and these parities of every grade emptied.
 fn emptied(mut words: Vec<u32>, new: u32, parities: &[usize]) -> Vec<u32> {
-    words[4] = new;
+    words[layout::CLOCK] = new;
     for grade in 0..3 {
         let range = shape().block(grade);
         let raw = decode_block(shape(), &words[range.clone()]);
@@ -43,7 +44,7 @@ fn clock_within_the_interval_changes_one_word() {
         let mut words = book();
         clock(&mut words, new).unwrap();
         let mut expected = book();
-        expected[4] = new;
+        expected[layout::CLOCK] = new;
         assert_eq!(words, expected);
     }
 }

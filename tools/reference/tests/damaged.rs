@@ -1,12 +1,16 @@
 //! Words that no call wrote: sound books that no run of calls reaches, random words, damaged books,
 //! and deliveries beside the damaged block of another grade.
 
-mod generate;
-
-use generate::Source;
+use draw::calls::Source;
+use draw::damage::any_word;
+use draw::pace::Pace;
+use draw::random::Random;
+use draw::shapes::Makes;
+use draw::view::Words;
 use reference::calls::{clock, deliver, make, perform, query, Call};
 use reference::histogram::Histogram;
-use reference::random::Random;
+use reference::layout::{CLOCK, HEAD_WORDS};
+use reference::ledger::Ledger;
 use reference::shape::Shape;
 use reference::soundness::block_faults;
 use reference::words::{decode_block, encode_block};
@@ -17,7 +21,7 @@ fn sound_words_that_no_run_reaches_are_accepted() {
     let mut words = vec![0; shape.book_length()];
     make(&mut words, 2, 2, 3, 1).unwrap();
     // Clock 1 in interval 0: stamps ahead, an odd interval, levels that contradict each other.
-    words[4] = 1;
+    words[CLOCK] = 1;
     let levels = [
         (0, [1, 0, 3, 1, 4, 0, 0, 0]),
         (1, [2, 2, 2, 1, 2, 3, 1, 2]),
@@ -69,10 +73,10 @@ fn levels_mixed_from_two_histories_stay_sound() {
         }
         let mut words = vec![0; shape.book_length()];
         make(&mut words, 4, 3, 6, 1).unwrap();
-        words[4] = random.between(16, 47);
+        words[CLOCK] = random.between(16, 47);
         encode_block(shape, &block, &mut words[shape.block(0)]);
         for _ in 0..20 {
-            let (now, volume) = (words[4], random.between(1, 6));
+            let (now, volume) = (words[CLOCK], random.between(1, 6));
             let stamp = random.between(now - 16, now);
             let full = deliver(&mut words, 0, stamp, volume);
             assert!(matches!(full, Ok(()) | Err(12)));
@@ -93,20 +97,25 @@ fn perform_checked(words: &mut [u32], call: Call) -> Result<(), u32> {
     answer.map(|_| ())
 }
 
-fn source(seed: u64, shape: Shape) -> Source {
-    Source {
-        random: Random::new(seed),
-        shapes: vec![shape],
-        calls_per_make: 1 << 40,
-        usual_volume: 3,
-        clock_divisor: 4,
-    }
+fn source(seed: u64) -> Source {
+    let mut source = Source::new(seed, Makes::Same);
+    source.pace = Pace {
+        span: 1 << 40,
+        volume: 3,
+        step_divisor: 4,
+        ..source.pace
+    };
+    source
 }
 
 #[test]
 fn random_words_of_any_length() {
     let shape = Shape::new(2, 2, 2, 1).unwrap();
-    let mut source = source(2, shape);
+    let mut source = source(2);
+    let mut empty = Ledger::new(shape);
+    empty
+        .perform(Call::Clock { clock: 7 }, shape.book_length())
+        .unwrap();
     for _ in 0..100_000 {
         let length = source.random.below(140) as usize;
         let mut words = vec![0; length];
@@ -122,42 +131,29 @@ fn random_words_of_any_length() {
             let head = [2, 2, 2, 1, 7, 0, 0, 0];
             words.iter_mut().zip(head).for_each(|(word, h)| *word = h);
         }
-        let call = source.call(shape, words.get(4).map_or(0, |clock| clock % 1000));
+        let call = source.call(&empty);
         let answer = perform_checked(&mut words, call);
         assert!(answer.is_ok() || (1..=12).contains(&answer.unwrap_err()));
     }
 }
 
-/// Changes one word, often by little.
-fn damage(random: &mut Random, words: &mut [u32]) {
-    let place = random.below(words.len() as u64) as usize;
-    let word = words[place];
-    words[place] = match random.below(5) {
-        0 => word.wrapping_add(1),
-        1 => word.wrapping_sub(1),
-        2 => 0,
-        3 => random.between(0, 16),
-        _ => random.word(),
-    };
-}
-
 #[test]
 fn grown_books_with_damaged_words() {
     let shape = Shape::new(3, 3, 5, 2).unwrap();
-    let mut source = source(3, shape);
+    let mut source = source(3);
     let (mut accepted, mut refused) = ([0; 2], [0; 13]);
     for _ in 0..4000 {
         let mut words = vec![0; shape.book_length()];
         make(&mut words, 3, 3, 5, 2).unwrap();
         for _ in 0..source.random.below(60) {
-            let call = source.call(shape, words[4]);
+            let call = source.call(&Words::new(shape, &words));
             let _ = perform_checked(&mut words, call);
         }
         for _ in 0..=source.random.below(3) {
-            damage(&mut source.random, &mut words[8..]);
+            any_word(&mut source.random, &mut words[HEAD_WORDS..]);
         }
         for _ in 0..8 {
-            let call = source.call(shape, words[4]);
+            let call = source.call(&Words::new(shape, &words));
             match perform_checked(&mut words, call) {
                 Ok(()) => accepted[usize::from(matches!(call, Call::Delivery { .. }))] += 1,
                 Err(number) => refused[number as usize] += 1,
@@ -181,22 +177,22 @@ fn other_answers(shape: Shape, words: &[u32], grade: u32) -> Vec<Result<u64, u32
 #[test]
 fn delivery_touches_no_other_grade() {
     let shape = Shape::new(3, 3, 5, 3).unwrap();
-    let mut source = source(4, shape);
+    let mut source = source(4);
     let mut beside_unsound = 0;
     for round in 0..1500 {
         let mut words = vec![0; shape.book_length()];
         make(&mut words, 3, 3, 5, 3).unwrap();
         for _ in 0..source.random.below(80) {
-            let call = source.call(shape, words[4]);
+            let call = source.call(&Words::new(shape, &words));
             let _ = perform(&mut words, call);
         }
         let grade = round % 3;
         for other in (0..3).filter(|other| *other != grade && round % 4 != 0) {
-            damage(&mut source.random, &mut words[shape.block(other)]);
+            any_word(&mut source.random, &mut words[shape.block(other)]);
         }
         let before = words.clone();
         let answers = other_answers(shape, &words, grade);
-        let stamp = words[4].saturating_sub(source.random.between(0, 8));
+        let stamp = words[CLOCK].saturating_sub(source.random.between(0, 8));
         if deliver(&mut words, grade, stamp, 1).is_ok() {
             let block = shape.block(grade);
             assert_ne!(words[block.clone()], before[block.clone()]);

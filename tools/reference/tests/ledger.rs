@@ -1,13 +1,13 @@
 //! Random runs of the book against the ledger: the same refusals, answers within the bound, late
 //! deliveries never missed, levels near the truth, and every grown block sound.
 
-mod generate;
-
-use generate::Source;
+use draw::calls::{call_of, Source};
+use draw::pace::Pace;
+use draw::random::Random;
+use draw::shapes::Makes;
 use reference::calls::{perform, Answer, Call};
 use reference::histogram::Histogram;
 use reference::ledger::Ledger;
-use reference::random::Random;
 use reference::shape::Shape;
 use reference::soundness::block_faults;
 use reference::words::decode_block;
@@ -39,7 +39,7 @@ struct Run {
 impl Run {
     fn new(shape: Shape) -> Run {
         let mut words = vec![0; shape.book_length()];
-        perform(&mut words, make(shape)).unwrap();
+        perform(&mut words, call_of(shape.numbers())).unwrap();
         Run {
             words,
             ledger: Ledger::new(shape),
@@ -50,7 +50,7 @@ impl Run {
 
     fn steps(&mut self, source: &mut Source, calls: usize) {
         for _ in 0..calls {
-            let call = source.call(self.ledger.shape(), self.ledger.clock());
+            let call = source.call(&self.ledger);
             self.step(call, self.words.len());
         }
     }
@@ -180,35 +180,24 @@ impl Run {
     }
 }
 
-fn make(shape: Shape) -> Call {
-    let [k, n, m, g] = [shape.k(), shape.n(), shape.m(), shape.g()];
-    Call::Make { k, n, m, g }
-}
-
 fn shape(k: u32, n: u32, m: u32, g: u32) -> Shape {
     Shape::new(k, n, m, g).unwrap()
 }
 
-fn source(seed: u64, shapes: &[Shape], calls_per_make: u64, usual_volume: u64) -> Source {
-    Source {
-        random: Random::new(seed),
-        shapes: shapes.to_vec(),
-        calls_per_make,
-        usual_volume,
-        clock_divisor: 4,
-    }
-}
-
-/// Every shape with a small interval whose book has this length.
-fn shapes_of_length(words: usize) -> Vec<Shape> {
-    let mut shapes = Vec::new();
-    for n in Shape::N_MIN..=Shape::N_MAX {
-        for (m, g) in (1..=24).flat_map(|m| (1..=8).map(move |g| (m, g))) {
-            let all = (2..=7).map(|k| shape(k, n, m, g));
-            shapes.extend(all.filter(|shape| shape.book_length() == words));
-        }
-    }
-    shapes
+/// Calls with an accepted make once in so many, of the same shape, and volumes up to the usual.
+fn source(seed: u64, span: u64, volume: u64) -> Source {
+    let mut source = Source::new(seed, Makes::Same);
+    source.pace = Pace {
+        span,
+        clocks: 8,
+        edges: 30,
+        volume,
+        step_divisor: 8,
+        leap: 4,
+        flood: false,
+        ..source.pace
+    };
+    source
 }
 
 #[test]
@@ -221,7 +210,7 @@ fn small_shapes_stay_within_the_bound() {
         shape(5, 16, 9, 3),
     ]) {
         let mut run = Run::new(shape);
-        run.steps(&mut source(seed, &[shape], 300, 5), 6000);
+        run.steps(&mut source(seed, 300, 5), 6000);
         assert!(run.seen.makes > 5);
         assert!(run.seen.skips > 5);
         assert!(run.seen.from_level_0 > 100);
@@ -239,8 +228,13 @@ fn long_intervals_stay_within_a_narrow_bound() {
         (13, shape(12, 300, 14, 1), 40),
     ] {
         let mut run = Run::new(shape);
-        let mut source = source(seed, &[shape], 3000, volume);
-        source.clock_divisor = 200;
+        let mut source = source(seed, 3000, volume);
+        source.pace = Pace {
+            edges: 200,
+            step_divisor: 400,
+            leap: 100,
+            ..source.pace
+        };
         run.steps(&mut source, 9000);
         assert!(run.seen.inexact > 50, "{}", run.seen.inexact);
         assert!(run.seen.above > 0 && run.seen.below > 0);
@@ -254,7 +248,7 @@ fn few_slots_still_share_every_refusal() {
         let k = random.between(2, 6);
         let shape = shape(k, random.between(2, k + 1), random.between(1, 14), 2);
         let mut run = Run::new(shape);
-        run.steps(&mut source(seed, &[shape], 200, 3), 2500);
+        run.steps(&mut source(seed, 200, 3), 2500);
         assert_eq!(run.seen.bounded, 0);
         assert!(run.seen.from_level_0 > 0);
     }
@@ -269,10 +263,10 @@ fn makes_of_other_shapes_in_the_same_words() {
         shape(2, 2, 4, 1),
         shape(3, 6, 7, 2),
     ]) {
-        let shapes = shapes_of_length(start.book_length());
-        assert!(shapes.iter().any(|s| s.n() != start.n()), "{shapes:?}");
         let mut run = Run::new(start);
-        run.steps(&mut source(seed, &shapes, 120, 4), 6000);
+        let mut source = source(seed, 120, 4);
+        source.makes = Makes::Length(start.book_length());
+        run.steps(&mut source, 8000);
         for (sum, refused) in seen.refused.iter_mut().zip(run.seen.refused) {
             *sum += refused;
         }
@@ -280,7 +274,8 @@ fn makes_of_other_shapes_in_the_same_words() {
         seen.inexact += run.seen.inexact;
         seen.late_checked += run.seen.late_checked;
     }
-    assert!(seen.makes > 100 && seen.inexact > 100 && seen.late_checked > 1000);
+    let met = [seen.makes, seen.inexact, seen.late_checked];
+    assert!(met[0] > 100 && met[1] > 100 && met[2] > 1000, "{met:?}");
     for number in [1, 2, 3, 4, 5, 6, 8, 9, 10, 12] {
         assert!(seen.refused[number] > 20, "refusal {number}");
     }
@@ -290,7 +285,7 @@ fn makes_of_other_shapes_in_the_same_words() {
 fn clock_at_its_last_tick() {
     for (seed, shape) in (41..).zip([shape(2, 4, 8, 2), shape(6, 9, 11, 1), shape(20, 30, 9, 1)]) {
         let mut run = Run::new(shape);
-        let mut source = source(seed, &[shape], 1 << 40, 3);
+        let mut source = source(seed, 1 << 40, 3);
         let near = Shape::CLOCK_MAX - 30;
         run.step(Call::Clock { clock: near }, shape.book_length());
         run.steps(&mut source, 2000);
@@ -306,8 +301,10 @@ fn clock_at_its_last_tick() {
 fn volumes_up_to_the_largest() {
     let shape = shape(3, 5, 24, 1);
     let mut run = Run::new(shape);
-    run.steps(&mut source(51, &[shape], 1 << 40, 65_535), 300);
-    assert!(run.seen.inexact > 5);
+    let mut source = source(51, 1 << 40, 65_535);
+    source.pace.clocks = 3;
+    run.steps(&mut source, 600);
+    assert!(run.seen.inexact > 5, "{}", run.seen.inexact);
 }
 
 #[test]
@@ -318,7 +315,8 @@ fn other_numbers_of_borrowed_words() {
     let mut run = Run::new(shapes[1]);
     assert_eq!(run.words.len(), longest);
     let mut random = Random::new(61);
-    let mut source = source(62, &shapes, 40, 3);
+    let mut source = source(62, 40, 3);
+    source.makes = Makes::UpTo(longest);
     for _ in 0..8000 {
         let borrowed = match random.below(10) {
             0 => random.below(10) as usize,
@@ -326,8 +324,7 @@ fn other_numbers_of_borrowed_words() {
             2 => random.pick(&lengths),
             _ => run.ledger.shape().book_length(),
         };
-        let call = source.call(run.ledger.shape(), run.ledger.clock());
-        run.step(call, borrowed);
+        run.step(source.call(&run.ledger), borrowed);
     }
     assert!(run.seen.makes > 20 && run.seen.refused[2] > 1000);
 }
@@ -342,7 +339,7 @@ fn every_level_is_near_the_truth() {
         shape(6, 12, 11, 1),
     ]) {
         let mut run = Run::new(shape);
-        let mut source = source(seed, &[shape], 400, 3);
+        let mut source = source(seed, 400, 3);
         let mut inexact = 0;
         for _ in 0..3000 {
             run.steps(&mut source, 1);

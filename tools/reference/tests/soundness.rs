@@ -2,6 +2,7 @@
 //! only modulo 2^32.
 
 use reference::calls::{clock, deliver, make, query};
+use reference::layout;
 use reference::shape::Shape;
 use reference::soundness::{block_faults, Fault};
 use reference::words::decode_block;
@@ -34,7 +35,7 @@ fn sound() -> Vec<u32> {
 /// The sound book with the words of one level replaced.
 fn replaced(parity: usize, index: usize, level: [u32; 8]) -> Vec<u32> {
     let mut words = sound();
-    let start = Shape::HEAD_WORDS;
+    let start = layout::HEAD_WORDS;
     words[start..][small().level(parity, index)].copy_from_slice(&level);
     words
 }
@@ -162,7 +163,7 @@ fn total_above_the_capacity_is_found() {
 fn level_without_a_bucket_is_found() {
     let mut words = vec![0; small().book_length()];
     make(&mut words, 2, 2, 2, 1).unwrap();
-    words[4] = 7;
+    words[layout::CLOCK] = 7;
     for (parity, index) in [(0, 1), (0, 2), (1, 1), (1, 2)] {
         let mut words = words.clone();
         words[8..][small().level(parity, index)].fill(0);

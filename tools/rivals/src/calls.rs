@@ -2,6 +2,8 @@
 
 use crate::insertion;
 use crate::level::{half, Level};
+use reference::calls::{Answer, Call, Reply};
+use reference::layout;
 use reference::refusal::{self, when};
 use reference::shape::Shape;
 
@@ -11,11 +13,26 @@ pub trait Calls {
     /// Whether these words, as many as a block has, are a sound block.
     fn is_sound(shape: Shape, block: &[u32]) -> bool;
 
+    /// Any of the calls.
+    fn perform(book: &mut [u32], call: Call) -> Reply {
+        let done = |()| Answer::Done;
+        match call {
+            Call::Make { k, n, m, g } => Self::make(book, k, n, m, g).map(done),
+            Call::Clock { clock } => Self::clock(book, clock).map(done),
+            Call::Delivery {
+                grade,
+                stamp,
+                volume,
+            } => Self::delivery(book, grade, stamp, volume).map(done),
+            Call::Query { grade, window } => Self::query(book, grade, window).map(Answer::Sum),
+        }
+    }
+
     /// Writes an empty book, whatever the words were.
     fn make(book: &mut [u32], k: u32, n: u32, m: u32, g: u32) -> Result<(), u32> {
         let shape = Shape::new(k, n, m, g).ok_or(refusal::SHAPE)?;
         when(book.len() != shape.book_length(), refusal::LENGTH)?;
-        book[..Shape::HEAD_WORDS].copy_from_slice(&[k, n, m, g, 0, 0, 0, 0]);
+        book[..layout::HEAD_WORDS].copy_from_slice(&[k, n, m, g, 0, 0, 0, 0]);
         for grade in 0..g {
             let block = &mut book[shape.block(grade)];
             empty(shape, block, 0);
@@ -33,7 +50,7 @@ pub trait Calls {
             let sound = Self::is_sound(shape, &book[shape.block(grade)]);
             when(!sound, refusal::BLOCK)?;
         }
-        book[4] = clock;
+        book[layout::CLOCK] = clock;
         let entered = shape.interval(clock.into()) - shape.interval(old.into());
         let parity = shape.parity(clock.into());
         for grade in 0..shape.g() {
@@ -92,7 +109,7 @@ pub trait Calls {
 
 /// The refusals that clock, delivery and query share: too short for a head, head, length.
 fn open(book: &[u32]) -> Result<(Shape, u32), u32> {
-    let head = book.first_chunk::<{ Shape::HEAD_WORDS }>();
+    let head = book.first_chunk::<{ layout::HEAD_WORDS }>();
     let &[k, n, m, g, clock, a, b, c] = head.ok_or(refusal::LENGTH)?;
     let shape = Shape::new(k, n, m, g).ok_or(refusal::HEAD)?;
     let unsound = clock > Shape::CLOCK_MAX || a | b | c != 0;
@@ -107,8 +124,8 @@ fn empty(shape: Shape, block: &mut [u32], parity: usize) {
     let levels = &mut block[half(shape, parity)];
     levels.fill(0);
     for level in levels.chunks_exact_mut(shape.level_length()).skip(1) {
-        level[0] = 1;
-        level[Shape::LEVEL_HEAD_WORDS + 1] = shape.interval_ticks() as u32;
+        level[layout::COUNT] = 1;
+        level[layout::LEVEL_HEAD_WORDS + layout::LENGTH] = shape.interval_ticks() as u32;
     }
 }
 

@@ -6,6 +6,7 @@
 
 use crate::calls::Calls;
 use crate::level::{halves, Slot};
+use reference::layout;
 use reference::shape::Shape;
 use std::array::from_fn;
 
@@ -311,7 +312,7 @@ const ROW: usize = 4;
 const TURN: usize = LANES * ROW;
 
 /// The words of a row and of a turn.
-const ROW_WORDS: usize = Shape::SLOT_WORDS * ROW;
+const ROW_WORDS: usize = layout::SLOT_WORDS * ROW;
 const TURN_WORDS: usize = LANES * ROW_WORDS;
 
 /// The words of a turn and the offset of the slot after it. The compiler does not see that each window
@@ -328,7 +329,7 @@ fn columns(window: &Window) -> [Lanes; ROW_WORDS] {
 /// The slot that stands at a place of a lane's row.
 #[inline(always)]
 fn bucket(columns: &[Lanes; ROW_WORDS], slot: usize, lane: usize) -> Slot {
-    from_fn(|word| columns[Shape::SLOT_WORDS * slot + word][lane])
+    from_fn(|word| columns[layout::SLOT_WORDS * slot + word][lane])
 }
 
 /// The bits of all lanes.

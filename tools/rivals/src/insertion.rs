@@ -2,6 +2,7 @@
 //! the slots are moved once. The level is sound, and so is its total with the volume.
 
 use crate::level::Slot;
+use reference::layout;
 use reference::shape::Shape;
 
 /// A bucket is split at most so often by one volume: its length is at most 2^20.
@@ -9,7 +10,7 @@ const SPLITS_MAX: usize = Shape::K_MAX as usize;
 
 /// Pours a volume into exactly the words of the level of this index.
 pub fn pour(level: &mut [u32], index: u32, offset: u32, volume: u32) {
-    let (head, slots) = level.split_at_mut(Shape::LEVEL_HEAD_WORDS);
+    let (head, slots) = level.split_at_mut(layout::LEVEL_HEAD_WORDS);
     let (count, first) = (head[0] as usize, head[1]);
     let slots = slots.as_chunks_mut().0;
     if offset < first {

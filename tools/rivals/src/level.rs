@@ -1,9 +1,10 @@
 //! The words of one level: bucket count, first kept offset, then n slots of three words.
 
+use reference::layout;
 use reference::shape::Shape;
 
 /// A slot's words: offset, length, weight.
-pub type Slot = [u32; Shape::SLOT_WORDS];
+pub type Slot = [u32; layout::SLOT_WORDS];
 
 /// A level's words, apart.
 #[derive(Clone, Copy)]
@@ -19,7 +20,7 @@ pub struct Level<'a> {
 impl<'a> Level<'a> {
     /// Takes exactly the words of a level.
     pub fn new(words: &'a [u32]) -> Level<'a> {
-        let (head, slots) = words.split_at(Shape::LEVEL_HEAD_WORDS);
+        let (head, slots) = words.split_at(layout::LEVEL_HEAD_WORDS);
         Level {
             count: head[0],
             first: head[1],

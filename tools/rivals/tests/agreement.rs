@@ -1,55 +1,45 @@
 //! Both versions against the reference, answers and words: on grown books, on damaged ones, on words
 //! that are right only modulo 2^32, and on slices of any length.
 
-#[path = "../../reference/tests/generate/mod.rs"]
-mod generate;
-
-use generate::Source;
-use reference::calls::{perform, Answer, Call};
-use reference::random::Random;
+use draw::calls::{call_of, Source};
+use draw::damage::any_word;
+use draw::pace::Pace;
+use draw::random::Random;
+use draw::shapes::Makes;
+use draw::view::Words;
+use reference::calls::{perform, Call, Reply};
+use reference::layout::{COUNT, FIRST, HEAD_WORDS, LENGTH, LEVEL_HEAD_WORDS, SLOT_WORDS, WEIGHT};
 use reference::refusal;
 use reference::shape::Shape;
+use reference::words::encode_head;
 use rivals::{Calls, Fast, Plain};
 
-fn call<C: Calls>(words: &mut [u32], call: Call) -> Result<Answer, u32> {
-    match call {
-        Call::Make { k, n, m, g } => C::make(words, k, n, m, g).map(|()| Answer::Done),
-        Call::Clock { clock } => C::clock(words, clock).map(|()| Answer::Done),
-        Call::Delivery {
-            grade,
-            stamp,
-            volume,
-        } => C::delivery(words, grade, stamp, volume).map(|()| Answer::Done),
-        Call::Query { grade, window } => C::query(words, grade, window).map(Answer::Sum),
-    }
-}
-
 /// One call by all three on copies of the words, which then become what it left.
-fn agree(words: &mut Vec<u32>, asked: Call) -> Result<Answer, u32> {
+fn agree(words: &mut Vec<u32>, asked: Call) -> Reply {
     let mut plain = words.clone();
     let mut fast = words.clone();
     let answer = perform(words, asked);
-    assert_eq!(call::<Plain>(&mut plain, asked), answer, "{asked:?}");
-    assert_eq!(call::<Fast>(&mut fast, asked), answer, "{asked:?}");
+    assert_eq!(Plain::perform(&mut plain, asked), answer, "{asked:?}");
+    assert_eq!(Fast::perform(&mut fast, asked), answer, "{asked:?}");
     assert!(plain == *words, "{asked:?}");
     assert!(fast == *words, "{asked:?}");
     answer
 }
 
-fn source(seed: u64, shape: Shape, usual_volume: u64) -> Source {
-    Source {
-        random: Random::new(seed),
-        shapes: vec![shape],
-        calls_per_make: 1 << 40,
-        usual_volume,
-        clock_divisor: 8,
-    }
+fn source(seed: u64, volume: u64) -> Source {
+    let mut source = Source::new(seed, Makes::Same);
+    source.pace = Pace {
+        span: 1 << 40,
+        volume,
+        step_divisor: 8,
+        ..source.pace
+    };
+    source
 }
 
 fn made(shape: Shape) -> Vec<u32> {
-    let [k, n, m, g] = [shape.k(), shape.n(), shape.m(), shape.g()];
     let mut words = vec![!0; shape.book_length()];
-    agree(&mut words, Call::Make { k, n, m, g }).unwrap();
+    agree(&mut words, call_of(shape.numbers())).unwrap();
     words
 }
 
@@ -74,11 +64,11 @@ fn shapes() -> Vec<Shape> {
 #[test]
 fn random_calls() {
     for (seed, shape) in (0..).zip(shapes()) {
-        for usual_volume in [2, 40, 900] {
-            let mut source = source(seed, shape, usual_volume);
+        for volume in [2, 40, 900] {
+            let mut source = source(seed, volume);
             let mut words = made(shape);
             for _ in 0..1500 {
-                let asked = source.call(shape, words[4]);
+                let asked = source.call(&Words::new(shape, &words));
                 let _ = agree(&mut words, asked);
             }
         }
@@ -88,7 +78,7 @@ fn random_calls() {
 #[test]
 fn a_book_of_the_greatest_shape() {
     let shape = Shape::new(20, 1024, 24, 2).unwrap();
-    let mut source = source(77, shape, 30);
+    let mut source = source(77, 30);
     let mut words = made(shape);
     agree(&mut words, Call::Clock { clock: 700_000 }).unwrap();
     for _ in 0..3000 {
@@ -97,32 +87,15 @@ fn a_book_of_the_greatest_shape() {
         Fast::delivery(&mut words, 1, stamp, volume).unwrap();
     }
     for _ in 0..40 {
-        let asked = source.call(shape, words[4]);
+        let asked = source.call(&Words::new(shape, &words));
         let _ = agree(&mut words, asked);
     }
-}
-
-/// A changed word: by little, or so that a sum with its neighbours is right only modulo 2^32.
-fn damage(random: &mut Random, words: &mut [u32]) {
-    let place = random.below(words.len() as u64) as usize;
-    let word = words[place];
-    let power = 1 << random.below(32);
-    words[place] = match random.below(8) {
-        0 => word.wrapping_add(1),
-        1 => word.wrapping_sub(1),
-        2 => 0,
-        3 => random.between(0, 16),
-        4 => word ^ power,
-        5 => word.wrapping_neg(),
-        6 => power,
-        _ => random.word(),
-    };
 }
 
 /// Adds a number to one word and takes it from one near it, so that sums modulo 2^32 stay.
 fn shift(random: &mut Random, words: &mut [u32]) {
     let from = random.below(words.len() as u64) as usize;
-    let to = (from + 3 * random.below(6) as usize) % words.len();
+    let to = (from + SLOT_WORDS * random.below(6) as usize) % words.len();
     let by = random.pick(&[1, 1 << 22, 1 << 24, 1 << 30, 1 << 31, u32::MAX]);
     words[from] = words[from].wrapping_sub(by);
     words[to] = words[to].wrapping_add(by);
@@ -133,24 +106,24 @@ fn grown_books_with_damaged_words() {
     let mut refused = 0;
     let mut accepted = 0;
     for (seed, shape) in (100..).zip(shapes()) {
-        let mut source = source(seed, shape, 20);
+        let mut source = source(seed, 20);
         for _ in 0..60 {
             let mut words = made(shape);
             for _ in 0..source.random.below(40) {
-                let asked = source.call(shape, words[4]);
-                let _ = call::<Fast>(&mut words, asked);
+                let asked = source.call(&Words::new(shape, &words));
+                let _ = Fast::perform(&mut words, asked);
             }
             for _ in 0..8 {
                 let mut damaged = words.clone();
                 for _ in 0..=source.random.below(3) {
-                    let from = source.random.pick(&[0, 8, 8, 8, 8]);
+                    let from = source.random.pick(&[0, 1, 1, 1, 1]) * HEAD_WORDS;
                     if source.random.one_in(3) {
                         shift(&mut source.random, &mut damaged[from..]);
                     } else {
-                        damage(&mut source.random, &mut damaged[from..]);
+                        any_word(&mut source.random, &mut damaged[from..]);
                     }
                 }
-                let calls = [0, 1, 2].map(|_| source.call(shape, words[4]));
+                let calls = [0, 1, 2].map(|_| source.call(&Words::new(shape, &words)));
                 for asked in calls {
                     match agree(&mut damaged, asked) {
                         Err(refusal::BLOCK) => refused += 1,
@@ -185,9 +158,9 @@ fn full_levels_with_damaged_words() {
     for _ in 0..1500 {
         let mut damaged = words.clone();
         if random.one_in(3) {
-            shift(&mut random, &mut damaged[8..]);
+            shift(&mut random, &mut damaged[HEAD_WORDS..]);
         } else {
-            damage(&mut random, &mut damaged[8..]);
+            any_word(&mut random, &mut damaged[HEAD_WORDS..]);
         }
         let _ = agree(&mut damaged, Call::Query { grade, window });
     }
@@ -205,15 +178,16 @@ fn full_levels_up_to_the_total() {
     {
         let total = words[shape.block(0)][parity];
         let level = &words[shape.block(0)][shape.level(parity, index)];
-        let slots = level[2..].as_chunks::<3>().0;
-        let sum: u32 = slots.iter().map(|slot| slot[2]).sum();
-        let tick = slots.iter().rposition(|slot| slot[1] == 1);
-        let Some(tick) = tick.filter(|_| level[1] > 0) else {
+        let slots = level[LEVEL_HEAD_WORDS..].as_chunks::<SLOT_WORDS>().0;
+        let sum: u32 = slots.iter().map(|slot| slot[WEIGHT]).sum();
+        let tick = slots.iter().rposition(|slot| slot[LENGTH] == 1);
+        let Some(tick) = tick.filter(|_| level[FIRST] > 0) else {
             continue;
         };
         for (by, sound) in [(total - sum, true), (total - sum + 1, false)] {
             let mut changed = words.clone();
-            changed[shape.block(0)][shape.level(parity, index)][2 + 3 * tick + 2] += by;
+            let weight = LEVEL_HEAD_WORDS + SLOT_WORDS * tick + WEIGHT;
+            changed[shape.block(0)][shape.level(parity, index)][weight] += by;
             let answer = agree(&mut changed, Call::Query { grade, window });
             assert_eq!(answer.is_ok(), sound, "{parity} {index} {by}");
             raised += 1;
@@ -266,9 +240,10 @@ fn refuses(k: u32, index: usize, total: u32, first: u32, buckets: &[[u32; 3]]) -
     agree(&mut words, Call::Query { grade, window }).unwrap();
     let level = &mut words[shape.block(0)][shape.level(0, index)];
     level.fill(0);
-    level[0] = buckets.len() as u32;
-    level[1] = first;
-    level[2..2 + 3 * buckets.len()].copy_from_slice(buckets.as_flattened());
+    level[COUNT] = buckets.len() as u32;
+    level[FIRST] = first;
+    let slots = &mut level[LEVEL_HEAD_WORDS..][..SLOT_WORDS * buckets.len()];
+    slots.copy_from_slice(buckets.as_flattened());
     agree(&mut words, Call::Query { grade, window }) == Err(refusal::BLOCK)
 }
 
@@ -380,7 +355,7 @@ fn weights_that_are_right_only_modulo_two_to_the_32() {
 fn slices_of_any_length() {
     let mut random = Random::new(9);
     for shape in shapes().into_iter().take(5) {
-        let mut source = source(random.bits(), shape, 3);
+        let mut source = source(random.bits(), 3);
         let book = made(shape);
         for _ in 0..300 {
             let mut words = book.clone();
@@ -391,11 +366,10 @@ fn slices_of_any_length() {
                 _ => source.random.below(2 * words.len() as u64) as usize,
             };
             words.resize(length, 0);
-            for asked in [0, 1, 2].map(|_| source.call(shape, 7)) {
+            for asked in [0, 1, 2].map(|_| source.call(&Words::new(shape, &book))) {
                 let _ = agree(&mut words, asked);
             }
-            let [k, n, m, g] = [shape.k(), shape.n(), shape.m(), shape.g()];
-            let _ = agree(&mut words, Call::Make { k, n, m, g });
+            let _ = agree(&mut words, call_of(shape.numbers()));
         }
     }
 }
@@ -403,7 +377,7 @@ fn slices_of_any_length() {
 #[test]
 fn random_words() {
     let shape = Shape::new(2, 2, 2, 1).unwrap();
-    let mut source = source(10, shape, 3);
+    let mut source = source(10, 3);
     for _ in 0..30_000 {
         let mut words = vec![0; shape.book_length()];
         for word in &mut words {
@@ -414,9 +388,9 @@ fn random_words() {
             };
         }
         if !source.random.one_in(8) {
-            words[..8].copy_from_slice(&[2, 2, 2, 1, 7, 0, 0, 0]);
+            encode_head(shape, 7, &mut words);
         }
-        let asked = source.call(shape, words[4] % 1000);
+        let asked = source.call(&Words::new(shape, &words));
         let _ = agree(&mut words, asked);
     }
 }

@@ -2,11 +2,12 @@
 //! that a single comparison of the fast version sees. The reference tells which are faults.
 
 use reference::calls::{perform, Answer, Call};
+use reference::layout::{COUNT, FIRST, LEVEL_HEAD_WORDS, SLOT_WORDS};
 use reference::refusal;
 use reference::shape::Shape;
 use rivals::{Calls, Fast};
 
-type Slot = [u32; 3];
+type Slot = [u32; SLOT_WORDS];
 
 const K: u32 = 12;
 const END: u32 = 1 << K;
@@ -43,9 +44,10 @@ impl Book {
         let mut words = self.words.clone();
         let level = &mut words[self.shape.block(0)][self.shape.level(0, index)];
         level.fill(0);
-        level[0] = buckets.len() as u32;
-        level[1] = first;
-        level[2..2 + 3 * buckets.len()].copy_from_slice(buckets.as_flattened());
+        level[COUNT] = buckets.len() as u32;
+        level[FIRST] = first;
+        let slots = &mut level[LEVEL_HEAD_WORDS..][..SLOT_WORDS * buckets.len()];
+        slots.copy_from_slice(buckets.as_flattened());
         let (grade, window) = (0, 0);
         let answer = perform(&mut words, Call::Query { grade, window });
         let fast = Fast::query(&words, grade, window).map(Answer::Sum);

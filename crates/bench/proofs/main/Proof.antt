@@ -1,4 +1,4 @@
--- The buffer of words is the one of the start, and the output has 32 bytes for each byte of a chunk.
+-- The buffer of words is all zero, and the output has 32 bytes for each byte of a chunk.
 use mathlib.Core.Path.{refl}
 use native.Mathlib.Omega.{arith}
 use Rattle.session.specs.Protocol.{zeroBuffer}

@@ -1,4 +1,4 @@
--- The lengths of the buffers stay, what is lent lies within its own, and nothing waits before a read.
+-- Invariant: the buffers keep their lengths, what is lent is within the buffer, and no byte waits before a read.
 use mathlib.Core.Path.{_≡_}
 use Prim.Native.Nat.{_≤_}
 use lib.ListN.{length}

@@ -1,4 +1,4 @@
--- What waits lies within the output.
+-- The waiting bytes are within the output.
 use mathlib.Core.Path.{sym}
 use lib.Seq.{length-take-le}
 use borrow.Author.Needs.{needs}

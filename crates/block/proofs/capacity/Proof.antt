@@ -1,4 +1,4 @@
--- A shift of 1 by less than the width is the power itself.
+-- Shifting 1 by less than the type's width gives the power itself.
 use native.Mathlib.Omega.{arith}
 use lib.Pow.{shl-exact}
 use borrow.Author.Needs.{needs}

@@ -1,4 +1,4 @@
--- Both halves are tested, the second only where the first is sound.
+-- Both halves are tested, the second only if the first is sound.
 use mathlib.Core.Path.{sym, _∙_}
 use borrow.Author.Tests.{not-true, not-false}
 use borrow.Author.Needs.{needs}

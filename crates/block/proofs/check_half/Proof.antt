@@ -1,4 +1,4 @@
--- Each turn of the loop tests one level, and what is left to test is what the definition asks of the levels from there on.
+-- Each turn of the loop tests one level; what is left to test is what the definition asks of the levels from there on.
 use mathlib.Core.Path.{_≡_, sym, ap, _∙_}
 use Prim.Native.Nat.{ℕ, suc, _-_, _%_}
 use native.Mathlib.Omega.{arith}

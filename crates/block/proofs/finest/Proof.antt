@@ -1,23 +1,24 @@
--- The levels passed start past the offset, so the first that does not is the one that serves; the last has given nothing up.
-use mathlib.Core.Path.{_≡_, sym, ap, _∙_}
-use Prim.Native.Nat.{_-_, _≤_}
+-- The levels before have F above the offset, so the first that has not is the one that serves; the last has evicted nothing.
+use mathlib.Core.Path.{_≡_, sym, ap}
+use Prim.Native.Nat.{_+_, _-_, _≤_}
 use native.Mathlib.Omega.{arith}
 use borrow.Author.Needs.{needs}
-use Rattle.model.specs.Block.{serving}
+use Rattle.model.specs.Block.{servingIndex}
 use Rattle.model.specs.Words.{decodeLevel, decodeHalf}
 use Rattle.laws.specs.BlockWords.{length-levelPart}
-use Rattle.block.specs.Steps.{serving-here, serving-next, levelsFrom, levelsFrom-all, last-serves}
+use Rattle.block.specs.Steps.{index-here, index-next, levelsFrom, levelsFrom-all, last-index}
 use Rattle.block.proofs.finest.Statement.{statement}
 use Rattle.block.proofs.finest.Tie as tie
 
 abbrev Inv-loop : tie.InvT-loop
-Inv-loop block s parity a finest₀ finest = (finest ≤ s .last) × (serving a (levelsFrom s parity block finest) ≡ serving a (decodeHalf s parity block .levels))
+Inv-loop block s parity a finest₀ finest =
+    (finest ≤ s .last) × (finest + servingIndex a (levelsFrom s parity block finest) ≡ servingIndex a (decodeHalf s parity block .levels))
 
 abbrev μ-loop : tie.MeasureT-loop
 μ-loop block s parity a finest₀ finest = s .last - finest
 
 loop-holds : tie.Need-loop-holds Inv-loop μ-loop
-loop-holds c = let a = c .before .args in (omega arith, ap (serving (a .a)) (levelsFrom-all (a .s) (a .parity) (a .block .now)))
+loop-holds c = let a = c .before .args in omega (arith, ap (servingIndex (a .a)) (levelsFrom-all (a .s) (a .parity) (a .block .now)))
 
 level-at-requires : tie.Need-level-at-requires Inv-loop μ-loop
 level-at-requires c κs = search needs
@@ -35,7 +36,7 @@ returns c =
     let l = c .before .before .before .before .before .loop in
     let a = c .before .before .before .before .before .before .before .args in
     let low = rw (c .before .before .level-at .ensures) at (c .if2 .taken) in
-    (l .inv .0, serving-here (a .s) (a .parity) (a .block .now) (l .finest) (l .inv .0) (a .a) (omega arith) ∙ l .inv .1)
+    omega (arith, l .inv .1, index-here (a .s) (a .parity) (a .block .now) (l .finest) (l .inv .0) (a .a) (omega arith))
 
 add-finest : tie.Need-add-finest Inv-loop μ-loop
 add-finest c = search needs
@@ -49,14 +50,14 @@ loop-again c =
     let l = c .before .before .before .before .before .loop in
     let a = c .before .before .before .before .before .before .before .args in
     let high = rw (c .before .before .level-at .ensures) at (c .if2 .left) in
-    (omega arith, serving-next (a .s) (a .parity) (a .block .now) (l .finest) (l .inv .0) (a .a) (omega arith) ∙ l .inv .1)
+    omega (arith, l .inv .1, index-next (a .s) (a .parity) (a .block .now) (l .finest) (l .inv .0) (a .a) (omega arith))
 
 returns-2 : tie.Need-returns-2 Inv-loop μ-loop
 returns-2 c =
     let l = c .before .before .loop in
     let d = c .before .before .before .before in
     let all : l .finest ≡ d .args .s .last = omega arith in
-    (l .inv .0, rw all (last-serves (d .args .s) (d .args .block .now) (d .pre .0) (d .args .parity) (d .pre .1) (d .args .a) ∙ (rw all at (l .inv .1))))
+    omega (arith, rw all at (l .inv .1), last-index (d .args .s) (d .args .block .now) (d .pre .0) (d .args .parity) (d .pre .1) (d .args .a))
 
 pub finest-spec : {M : Type 1} → statement M
 finest-spec =

@@ -1,10 +1,10 @@
--- A total is a word, so that its sum with the volume fits the wider type.
+-- A total is a word, so its sum with the volume fits 64 bits.
 use Prim.Native.Nat.{_%_}
 use native.Mathlib.Omega.{arith}
 use borrow.Author.Needs.{needs}
 use Rattle.model.specs.Block.{interval}
 use Rattle.laws.specs.BlockWords.{blockWords-halves}
-use Rattle.laws.specs.Halves.{total-decode}
+use Rattle.laws.specs.HalfWrites.{total-decode}
 use Rattle.block.proofs.is_full.Statement.{statement}
 use Rattle.block.proofs.is_full.Tie as tie
 

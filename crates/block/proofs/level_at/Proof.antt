@@ -1,4 +1,4 @@
--- The part starts at the level and has its length, and ends within the block.
+-- The part starts where the level does, has its length, and ends within the block.
 use native.Mathlib.Nat.{add-sub-cancel-left}
 use native.Mathlib.Omega.{arith}
 use borrow.Author.Needs.{needs}

@@ -1,4 +1,4 @@
--- The sum from the serving level, and the current half's total where the window opens in another interval.
+-- The answer is the sum from the serving level, plus the current half's total if the window opens in another interval.
 use mathlib.Core.Path.{_≡_, sym, ap, _∙_}
 use Prim.Native.Nat.{ℕ, _%_, _^_, _≤_}
 use native.Mathlib.Omega.{arith}
@@ -8,9 +8,21 @@ use borrow.Author.Needs.{needs}
 use Rattle.model.specs.Block.{interval, offsetOf, sumFrom, serving}
 use Rattle.model.specs.Words.{decodeHalf}
 use Rattle.laws.specs.BlockWords.{blockWords-halves, length-levelPart}
-use Rattle.block.specs.Steps.{count-few, total-small, sum-small, answer-decode}
+use Rattle.block.specs.Steps.{levelAt, index-serves, count-few, total-small, sum-small, answer-decode}
 use Rattle.block.proofs.sum.Statement.{statement}
 use Rattle.block.proofs.sum.Tie as tie
+
+-- the level found is one of the half, and it serves
+found : (c : tie.After-finest) →
+    let p = c .before in
+    let a = p .before .before .before .before .before .args in
+    (c .finest .result ≤ a .s .last)
+    × (levelAt (a .s) (p .parity .result) (a .block .now) (c .finest .result)
+    ≡ serving (p .before .offset .result) (decodeHalf (a .s) (p .parity .result) (a .block .now) .levels))
+found c =
+    let p = c .before in
+    let d = p .before .before .before .before .before in
+    rw (c .finest .ensures) (index-serves (d .args .s) (d .args .block .now) (d .pre) (p .parity .result) (omega arith) (p .before .offset .result))
 
 -- the level's sum is that of the definition
 sum-is : (c : tie.After-sum-from) →
@@ -22,7 +34,7 @@ sum-is c =
     let p = f .before in
     let a = p .before .before .before .before .before .args in
     let at : p .before .offset .result ≡ offsetOf (a .s) (a .start) = p .before .offset .ensures in
-    rw (← p .before .before .before .interval .ensures, ← p .parity .ensures, ← at, ← f .finest .ensures .1, ← c .before .level-at .ensures) (c .sum-from .ensures)
+    rw (← p .before .before .before .interval .ensures, ← p .parity .ensures, ← at, ← found f .1, ← c .before .level-at .ensures) (c .sum-from .ensures)
 
 sum-low : (c : tie.After-sum-from) → c .sum-from .result ≤ 2 ^ 24
 sum-low c =
@@ -30,7 +42,7 @@ sum-low c =
     let p = f .before in
     let d = p .before .before .before .before .before in
     rw (c .sum-from .ensures, c .before .level-at .ensures)
-    (sum-small (d .args .s) (d .args .block .now) (d .pre) (p .parity .result) (omega arith) (f .finest .result) (f .finest .ensures .0) (p .before .offset .result))
+    (sum-small (d .args .s) (d .args .block .now) (d .pre) (p .parity .result) (omega arith) (f .finest .result) (found f .0) (p .before .offset .result))
 
 interval-requires : tie.Need-interval-requires
 interval-requires c κs = search needs
@@ -48,7 +60,9 @@ finest-requires : tie.Need-finest-requires
 finest-requires c κs = search needs
 
 level-at-requires : tie.Need-level-at-requires
-level-at-requires c κs = search needs
+level-at-requires c κs =
+    let d = c .before .before .before .before .before .before in
+    record { sized = record { proper = d .pre .proper; size = d .pre .size }; half = omega arith; index = found c .0 }
 
 sum-from-requires : tie.Need-sum-from-requires
 sum-from-requires c κs =
@@ -56,7 +70,7 @@ sum-from-requires c κs =
     let a = d .args in
     let parity = c .before .before .parity .result in
     let i = c .before .finest .result in
-    let low = c .before .finest .ensures .0 in
+    let low = found (c .before) .0 in
     let half : parity ≤ 1 = omega arith in
     let size = length-levelPart (a .s) parity i (a .block .now) half low (d .pre .size) in
     let few = count-few (a .s) (a .block .now) (d .pre) parity half i low in

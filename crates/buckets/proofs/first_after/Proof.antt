@@ -1,4 +1,4 @@
--- The branch goes by the same test as the clause.
+-- The branch makes the test of the clause.
 use borrow.Author.Tests.{eq-eqb, ne-eqb}
 use borrow.Author.Needs.{needs}
 use Rattle.buckets.proofs.first_after.Statement.{statement}

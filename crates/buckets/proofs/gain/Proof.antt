@@ -1,4 +1,4 @@
--- The word read is the weight.
+-- The word that is read is the weight.
 use borrow.Author.Needs.{needs}
 use Rattle.buckets.proofs.gain.Statement.{statement}
 use Rattle.buckets.proofs.gain.Tie as tie

@@ -1,10 +1,10 @@
--- After each turn the lowest i of the m words stand one slot below: from the bottom up no word is read once it was written over.
+-- Invariant: the lowest i of the m words stand one slot below. Going up, no word is read after it was overwritten.
 use mathlib.Core.Path.{_≡_, refl, ap, _∙_}
 use Prim.Native.Nat.{_-_, _≤_}
 use native.Mathlib.Omega.{arith}
 use lib.ListN.{length, length-set}
 use borrow.Author.Needs.{needs}
-use Rattle.laws.specs.Moves.{lower, lower-none, lower-more}
+use Rattle.laws.specs.SlotWrites.{lower, lower-none, lower-more}
 use Rattle.buckets.proofs.lower_words.Statement.{statement}
 use Rattle.buckets.proofs.lower_words.Tie as tie
 

@@ -1,4 +1,5 @@
--- Each of the three ways, with room, without room at slot 0 and without room above it, leaves what evicting from the longer list leaves.
+-- There are three cases: with room, without room at slot 0, and without room above it. Each leaves what evicting from the longer list
+-- leaves.
 use native.Mathlib.Omega.{arith}
 use borrow.Author.Needs.{needs}
 use Rattle.buckets.specs.Steps.{put-in-room, put-in-lowest, put-in-shifted}

@@ -1,4 +1,4 @@
--- What the two calls leave, and the count stored last, are the clause by their contracts.
+-- By their contracts, what the two calls leave and the count that is stored last are the clause.
 use native.Mathlib.Omega.{arith}
 use lib.ListN.{length-set}
 use borrow.Author.Needs.{needs}

@@ -3,7 +3,7 @@ use mathlib.Core.Path.{refl}
 use native.Mathlib.Omega.{arith}
 use lib.ListN.{length-set}
 use borrow.Author.Needs.{needs}
-use Rattle.laws.specs.Moves.{putSlot}
+use Rattle.laws.specs.SlotWrites.{putSlot}
 use Rattle.buckets.proofs.put_slot.Statement.{statement}
 use Rattle.buckets.proofs.put_slot.Tie as tie
 

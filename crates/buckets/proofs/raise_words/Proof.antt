@@ -1,10 +1,10 @@
--- After each turn all but the lowest i of the m words stand one slot above: from the top down no word is read once it was written over.
+-- Invariant: all but the lowest i of the m words stand one slot above. Going down, no word is read after it was overwritten.
 use mathlib.Core.Path.{_≡_, refl, ap, _∙_}
 use Prim.Native.Nat.{_+_, _-_, _≤_}
 use native.Mathlib.Omega.{arith}
 use lib.ListN.{length, length-set}
 use borrow.Author.Needs.{needs}
-use Rattle.laws.specs.Moves.{raisedFrom, raise-none, raise-all, raise-more}
+use Rattle.laws.specs.SlotWrites.{raisedFrom, raise-none, raise-all, raise-more}
 use Rattle.buckets.proofs.raise_words.Statement.{statement}
 use Rattle.buckets.proofs.raise_words.Tie as tie
 

@@ -1,4 +1,4 @@
--- What the two calls leave is the clause by their contracts.
+-- By their contracts, what the two calls leave is the clause.
 use borrow.Author.Needs.{needs}
 use Rattle.buckets.proofs.shift_in.Statement.{statement}
 use Rattle.buckets.proofs.shift_in.Tie as tie

@@ -1,4 +1,4 @@
--- Storing the upper half and putting the lower one in before it leaves the two halves.
+-- Storing the upper half and putting the lower half in before it leaves the two halves.
 use native.Mathlib.Omega.{arith}
 use borrow.Author.Needs.{needs}
 use Rattle.buckets.specs.Steps.{stored-takes, stored-count, split-becomes}

@@ -1,4 +1,4 @@
--- The match tells which answer it is.
+-- The match says which answer it is.
 use mathlib.Core.Path.{sym, ap, _∙_}
 use Rattle.model.specs.declared.Answer.{Answer}
 use Rattle.model.specs.Reply.{replyOf}

@@ -1,4 +1,4 @@
--- The match tells which answer the question got.
+-- The match says which answer the question got.
 use mathlib.Core.Path.{sym, ap, _∙_}
 use Prim.Native.Nat.{ℕ}
 use Rattle.model.specs.Reply.{replyOf}

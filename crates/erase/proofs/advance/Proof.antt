@@ -6,7 +6,7 @@ use borrow.Author.Needs.{needs}
 use Rattle.model.specs.Block.{interval}
 use Rattle.model.specs.Words.{decodeBlock}
 use Rattle.laws.specs.BlockWords.{encode-decodeBlock}
-use Rattle.laws.specs.Halves.{advance-same, advance-far, emptied-next}
+use Rattle.laws.specs.HalfWrites.{advance-same, advance-far, emptied-next}
 use Rattle.stamp.specs.Interval.{interval-small}
 use Rattle.erase.proofs.advance.Statement.{statement}
 use Rattle.erase.proofs.advance.Tie as tie

@@ -1,8 +1,8 @@
--- Both halves emptied, one after the other, are the empty block.
+-- Emptying both halves, one after the other, leaves the empty block.
 use mathlib.Core.Path.{ap, _∙_}
 use native.Mathlib.Omega.{arith}
 use borrow.Author.Needs.{needs}
-use Rattle.laws.specs.Halves.{emptied, emptied-both}
+use Rattle.laws.specs.HalfWrites.{emptied, emptied-both}
 use Rattle.erase.proofs.clear.Statement.{statement}
 use Rattle.erase.proofs.clear.Tie as tie
 

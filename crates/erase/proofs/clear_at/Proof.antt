@@ -1,4 +1,4 @@
--- The part that comes back stands where it was lent.
+-- The part comes back where it was lent.
 use Prim.Native.Nat.{_+_}
 use native.Mathlib.Nat.{add-sub-cancel-left}
 use native.Mathlib.Omega.{arith}

@@ -1,4 +1,4 @@
--- Each turn of the loop has written one more level.
+-- Invariant: after each turn one more level is written.
 use mathlib.Core.Path.{_≡_, refl, ap, _∙_}
 use Prim.Native.Nat.{suc, _-_, _≤_}
 use native.Mathlib.Numerals.{add-one}
@@ -7,7 +7,7 @@ use lib.ListN.{length, length-set}
 use borrow.Author.Needs.{needs}
 use Rattle.laws.specs.BlockWrites.{withLevel}
 use Rattle.laws.specs.BlockWords.{blockWords-halves}
-use Rattle.laws.specs.Halves.{withLevels, emptyWords, emptied}
+use Rattle.laws.specs.HalfWrites.{withLevels, emptyWords, emptied}
 use Rattle.erase.proofs.clear_half.Statement.{statement}
 use Rattle.erase.proofs.clear_half.Tie as tie
 

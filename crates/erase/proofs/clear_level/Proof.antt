@@ -1,4 +1,4 @@
--- Zeros are level 0 of an empty half; the count and the length of one bucket make them any other.
+-- Zeros are level 0 of an empty half; the count and the width of one bucket make them any other level.
 use mathlib.Core.Path.{_≡_}
 use native.Mathlib.Omega.{arith}
 use lib.ListN.{length-set}

@@ -1,4 +1,4 @@
--- Each turn of the loop writes one more zero, until all words are.
+-- Invariant: each turn writes one more zero.
 use mathlib.Core.Path.{_≡_, ap, _∙_}
 use Prim.Native.Nat.{_-_, _≤_}
 use native.Mathlib.Omega.{arith}

@@ -1,4 +1,4 @@
--- The half and the offset are those of the stamp.
+-- The parity and the offset are those of the stamp.
 use borrow.Author.Needs.{needs}
 use mathlib.Core.Path.{ap, _∙_}
 use Prim.Native.Nat.{ℕ, _%_}
@@ -22,7 +22,7 @@ fill-requires c κs =
     let p = c .before .before .before in
     rw (c .long .ensures .0)
     (record {
-      takes = p .before .before .before .pre;
+      deliverable = p .before .before .before .pre;
       half = p .parity .ensures ∙ ap (λ (j : ℕ). j % 2) (p .before .interval .ensures);
       place = c .before .before .offset .ensures;
     })

@@ -1,13 +1,14 @@
--- After each turn one level more has the volume, and the next is as it was.
+-- Invariant: after each turn one more level has the volume, and the next is as it was.
 use borrow.Author.Needs.{needs}
 use mathlib.Core.Path.{_≡_, refl, ap, _∙_}
 use mathlib.Core.List.{List}
 use Prim.Native.Nat.{ℕ, suc, _+_, _-_, _≤_}
 use native.Mathlib.Numerals.{add-one}
 use lib.ListN.{length, getD, set, length-set}
+use Rattle.shape.specs.Layout.{totalStart}
 use Rattle.laws.specs.BlockWords.{blockWords-halves}
-use Rattle.laws.specs.Delivery.{delivering, delivering-all}
-use Rattle.fill.specs.Fill.{Fills, total-fits, level-in, level-takes, level-filled}
+use Rattle.laws.specs.Deliver.{delivering, delivering-all}
+use Rattle.fill.specs.Fill.{Fills, total-fits, level-in, delivering-insertable, level-filled}
 use native.Mathlib.Omega.{arith}
 use Rattle.fill.proofs.fill.Statement.{statement}
 use Rattle.fill.proofs.fill.Tie as tie
@@ -15,7 +16,7 @@ use Rattle.fill.proofs.fill.Tie as tie
 abbrev Inv-loop : tie.InvT-loop
 Inv-loop block₀ s stamp parity x v at total i₀ block i =
     (i ≤ suc (s .last)) × (length block ≡ length block₀)
-    × ((ws : List ℕ) → block₀ ≡ set ws parity (getD ws parity 0 + v) → Fills s stamp parity x v ws → block ≡ delivering s stamp v ws i)
+    × ((ws : List ℕ) → block₀ ≡ set ws parity (getD ws (totalStart parity) 0 + v) → Fills s stamp parity x v ws → block ≡ delivering s stamp v ws i)
 
 abbrev μ-loop : tie.MeasureT-loop
 μ-loop block₀ s stamp parity x v at total i₀ block i = suc (s .last) - i
@@ -26,7 +27,7 @@ mul-long c = search needs
 slice-read-long : tie.Need-slice-read-long Inv-loop μ-loop
 slice-read-long c =
     let d = c .before .before in
-    omega (arith, blockWords-halves (d .args .s), d .pre .takes .whole .size, d .pre .half)
+    omega (arith, blockWords-halves (d .args .s), d .pre .deliverable .whole .size, d .pre .half)
 
 long-requires : tie.Need-long-requires Inv-loop μ-loop
 long-requires c κs = search needs
@@ -43,7 +44,7 @@ mul-block c = search needs
 slice-write-block : tie.Need-slice-write-block Inv-loop μ-loop
 slice-write-block c =
     let d = c .before .before .before in
-    omega (arith, blockWords-halves (d .args .s), d .pre .takes .whole .size, d .pre .half)
+    omega (arith, blockWords-halves (d .args .s), d .pre .deliverable .whole .size, d .pre .half)
 
 loop-holds : tie.Need-loop-holds Inv-loop μ-loop
 loop-holds c = (omega arith, refl, λ ws e f. e ∙ rw (f .half))
@@ -57,7 +58,7 @@ insert-at-requires c κs =
     let e = l .inv .2 (a .block .now) (ap (λ (z : ℕ). set (a .block .now) (a .parity) (z + a .v)) (w .long .ensures .0)) (d .pre) in
     let low : l .i ≤ a .s .last = omega (arith, c .before .if1 .taken) in (
       rw e (level-in (a .s) (a .stamp) (a .parity) (a .x) (a .v) (a .block .now) (d .pre) (l .i) low),
-      rw e (level-takes (a .s) (a .stamp) (a .parity) (a .x) (a .v) (a .block .now) (d .pre) (l .i) low),
+      rw e (delivering-insertable (a .s) (a .stamp) (a .parity) (a .x) (a .v) (a .block .now) (d .pre) (l .i) low),
     )
 
 add-i : tie.Need-add-i Inv-loop μ-loop
@@ -90,7 +91,7 @@ returns c =
     let d = w .before .before .before in
     let a = d .args in
     let all : l .i ≡ suc (a .s .last) = omega arith in
-    rw all at (l .inv .2 (a .block .now) (ap (λ (z : ℕ). set (a .block .now) (a .parity) (z + a .v)) (w .long .ensures .0)) (d .pre)) ∙ delivering-all (a .s) (a .stamp) (a .v) (a .block .now) (d .pre .takes .whole)
+    rw all at (l .inv .2 (a .block .now) (ap (λ (z : ℕ). set (a .block .now) (a .parity) (z + a .v)) (w .long .ensures .0)) (d .pre)) ∙ delivering-all (a .s) (a .stamp) (a .v) (a .block .now) (d .pre .deliverable .whole)
 
 pub fill-spec : {M : Type 1} → statement M
 fill-spec =

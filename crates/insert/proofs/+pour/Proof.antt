@@ -1,4 +1,5 @@
--- Where the bucket stays whole it takes all; else the split leaves a level in which the rest goes on, and its bucket is half as wide, which is the measure.
+-- A bucket that stays whole takes all. Otherwise the split leaves a level into which the rest goes, and its bucket is half as wide; the
+-- width is the measure.
 use mathlib.Core.Path.{ap, _∙_}
 use Prim.Native.Nat.{ℕ, _+_, _-_, _*_, _<_}
 use native.Mathlib.Omega.{arith}
@@ -6,6 +7,7 @@ use lib.ListN.{getD}
 use borrow.Author.Needs.{needs}
 use borrow.Fn.Kinds.{In}
 use borrow.Fn.PlainCycle.{Measures, is, falls, and}
+use Rattle.shape.specs.Layout.{slotStart}
 use Rattle.model.specs.Words.{encodeLevel}
 use Rattle.insert.specs.Ready.{Cut, filled, onward, next-upper, next-lower, given-up}
 use Rattle.insert.proofs.pour.Reads as pour
@@ -20,7 +22,7 @@ use Rattle.insert.proofs.+pour.{statement}
 use Rattle.insert.proofs.+pour.Tie.{close}
 
 abbrev μ-pour : Measures 1 pour-kinds.ps ℕ
-μ-pour κs a = getD (a .0 .now) (2 + 3 * a .1 .1 .1 .1 .1 .0 + 1) 0
+μ-pour κs a = getD (a .0 .now) (slotStart (a .1 .1 .1 .1 .1 .0) + 1) 0
 
 abbrev pour-at : ℕ → In 1 pour-kinds.ps
 pour-at t = and 1 pour-kinds.ps (is 1 pour-kinds.ps μ-pour t) pour.Pre
@@ -31,7 +33,7 @@ pour-below t = and 1 pour-kinds.ps (falls 1 pour-kinds.ps _<_ μ-pour t) pour.Pr
 abbrev calls : ℕ → pour-lts.Claims
 calls t = (long-reads.Asked, long-reads.Learnt, power-reads.Asked, power-reads.Learnt, stays-whole-reads.Asked, stays-whole-reads.Learnt, gain-reads.Asked, gain-reads.Learnt, split-at-reads.Asked, split-at-reads.Learnt, pour-below t, pour.Post)
 
--- what is known after the split
+-- what holds after the split
 cut : (t : ℕ) (d : pour-lts.After-split-at (calls t) (pour-at t) pour.Post)
     → let p = d .before .before .before .before .before in
     let l = p .before .before in

@@ -1,4 +1,4 @@
--- Below F nothing changes; else the slot found is the one that level 0 or the recursion asks for.
+-- Below F nothing changes. Otherwise the slot found is what level 0, or the recursion, requires.
 use native.Mathlib.Omega.{arith}
 use borrow.Author.Needs.{needs}
 use Rattle.insert.specs.Entry.{searchable, below, found, found-ready}

@@ -1,4 +1,4 @@
--- The slot found is that of x, which gains v, or the one before which a bucket for x stands.
+-- The slot found has the bucket of x, which gains v, or a bucket for x is put in before it.
 use mathlib.Core.Path.{_∙_}
 use native.Mathlib.Omega.{arith}
 use borrow.Author.Needs.{needs}

@@ -1,11 +1,11 @@
--- Each arm goes by one of the two tests.
+-- Each branch makes one of the two tests.
 use mathlib.Core.Path.{sym}
 use mathlib.Core.Bool.{true≢false}
-use Prim.Native.Nat.{_+_, _*_}
 use native.Mathlib.Omega.{arith}
 use lib.ListN.{getD}
 use borrow.Author.Tests.{eqb-true, eqb-false}
 use borrow.Author.Needs.{needs}
+use Rattle.shape.specs.Layout.{slotStart}
 use Rattle.insert.proofs.is_at.Statement.{statement}
 use Rattle.insert.proofs.is_at.Tie as tie
 
@@ -33,7 +33,7 @@ shared-slice-read-result c = search needs
 returns-2 : tie.Need-returns-2
 returns-2 c =
     let a = c .before .before .before .before .before .args in
-    let word = getD (a .level .now) (2 + 3 * a .j) 0 in
+    let word = getD (a .level .now) (slotStart (a .j)) 0 in
     record { yes = λ e. (omega arith, eqb-true word (a .x) e); no = λ e _. eqb-false word (a .x) e }
 
 pub is-at-spec : {M : Type 1} → statement M

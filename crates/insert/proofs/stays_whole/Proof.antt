@@ -1,4 +1,4 @@
--- Each arm goes by one of the two tests.
+-- Each branch makes one of the two tests.
 use mathlib.Core.Bool.{true≢false}
 use native.Mathlib.Omega.{arith}
 use borrow.Author.Tests.{ltb-true, ltb-false}

@@ -1,4 +1,4 @@
--- The match tells whether the line is read; what the three calls give is put together.
+-- The match says whether the line is read; what the three calls give is what the line leaves.
 use mathlib.Core.Path.{sym, ap, _∙_}
 use Prim.Native.Nat.{_≤_}
 use lib.ListN.{length}

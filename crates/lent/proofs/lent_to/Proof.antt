@@ -1,4 +1,4 @@
--- The match tells which call it is.
+-- The match says which call it is.
 use mathlib.Core.Path.{sym, ap, _∙_}
 use Rattle.lent.specs.Lent.{lentTo}
 use borrow.Author.Needs.{needs}

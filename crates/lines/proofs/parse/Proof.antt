@@ -1,4 +1,4 @@
--- What the state gives over the bytes that are left is what the grammar says of the line, before each turn.
+-- Invariant: what the grammar says of the state and the bytes that are left is what it says of the line.
 use native.Mathlib.Numerals.{add-one}
 use lib.Seq.{drop-cons}
 use mathlib.Core.List.{foldl}

@@ -1,4 +1,4 @@
--- What the pass saw gives the weight and the soundness of the buckets.
+-- What the pass collected gives the weight and the soundness of the buckets.
 use Prim.Native.Nat.{_≤_}
 use native.Mathlib.Omega.{arith}
 use lib.ListN.{length, getD}
@@ -9,8 +9,8 @@ use Rattle.pass_laws.specs.PassLaws.{seen-weight, seen-sound}
 use Rattle.pass.proofs.judge_seen.Statement.{statement}
 use Rattle.pass.proofs.judge_seen.Tie as tie
 
-see-requires : tie.Need-see-requires
-see-requires c κs = search needs
+seen-level-requires : tie.Need-seen-level-requires
+seen-level-requires c κs = search needs
 
 shared-slice-read-sound-seen : tie.Need-shared-slice-read-sound-seen
 shared-slice-read-sound-seen c = search needs
@@ -18,8 +18,8 @@ shared-slice-read-sound-seen c = search needs
 sound-seen-requires : tie.Need-sound-seen-requires
 sound-seen-requires c κs = search needs
 
-weight-requires : tie.Need-weight-requires
-weight-requires c κs = search needs
+weight-seen-requires : tie.Need-weight-seen-requires
+weight-seen-requires c κs = search needs
 
 returns : tie.Need-returns
 returns c =
@@ -30,16 +30,16 @@ returns c =
     let bs = slots ws 0 (a .count) in
     let few : length bs ≤ 1024 = rw (length-slots ws 0 (a .count)) (omega arith) in
     let first = getD ws 1 0 in (
-      rw (c .weight .ensures, v .see .ensures) (seen-weight (a .i) first bs few),
-      rw (q .sound-seen .ensures, v .see .ensures) (seen-sound (a .k) first (omega arith) (a .i) bs few),
+      rw (c .weight-seen .ensures, v .seen-level .ensures) (seen-weight (a .i) first bs few),
+      rw (q .sound-seen .ensures, v .seen-level .ensures) (seen-sound (a .k) first (omega arith) (a .i) bs few),
     )
 
 pub judge-seen-spec : {M : Type 1} → statement M
 judge-seen-spec =
     tie.close
     (tie.spec
-    see-requires
+    seen-level-requires
     shared-slice-read-sound-seen
     sound-seen-requires
-    weight-requires
+    weight-seen-requires
     returns)

@@ -1,4 +1,4 @@
--- The code computes the definition field by field; a weight's upper half is below 2 ^ 16.
+-- The code computes the definition field by field; the upper 16 bits of a weight are below 2 ^ 16.
 use Prim.Native.Nat.{_^_, _<_}
 use native.Mathlib.Omega.{arith}
 use borrow.Author.Needs.{needs}
@@ -13,11 +13,11 @@ wrapping-sub-u32-requires c κs = search needs
 wrapping-add-u32-requires : tie.Need-wrapping-add-u32-requires
 wrapping-add-u32-requires c κs = search needs
 
-shared-requires : tie.Need-shared-requires
-shared-requires c κs = search needs
+spread-requires : tie.Need-spread-requires
+spread-requires c κs = search needs
 
-under-requires : tie.Need-under-requires
-under-requires c κs = search needs
+below-requires : tie.Need-below-requires
+below-requires c κs = search needs
 
 add-t16 : tie.Need-add-t16
 add-t16 c = search needs
@@ -37,12 +37,12 @@ returns c =
     let narrow : d .result < 2 ^ 32 = omega (arith, d .ok) in (
       rw (
         c .before .before .wrapping-add-u322 .ensures,
-        u .under .ensures .0,
-        u .before .before .shared .ensures,
+        u .below .ensures .0,
+        u .before .before .spread .ensures,
         w .wrapping-add-u32 .ensures,
         less-is (d .result) _ narrow (d .ensures),
       ),
-      omega (arith, u .under .ensures .1),
+      omega (arith, u .below .ensures .1),
       omega (arith, c .struct-known10 .given),
     )
 
@@ -52,8 +52,8 @@ see-bucket-spec =
     (tie.spec
     wrapping-sub-u32-requires
     wrapping-add-u32-requires
-    shared-requires
-    under-requires
+    spread-requires
+    below-requires
     add-t16
     wrapping-add-u32-requires-2
     add-t19

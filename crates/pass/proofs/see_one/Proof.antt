@@ -1,4 +1,4 @@
--- Level 0 is seen in one way and the other levels in another, as the definition has it.
+-- The definition too treats level 0 in one way and the other levels in another.
 use Prim.Native.Nat.{_<_}
 use native.Mathlib.Omega.{arith}
 use borrow.Author.Needs.{needs}

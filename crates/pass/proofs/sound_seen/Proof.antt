@@ -1,4 +1,4 @@
--- The code tests the factors of the definition, each once.
+-- The code makes each test of the definition once.
 use mathlib.Core.Path.{_≡_}
 use Prim.Native.Nat.{suc, _*_, _^_}
 use native.Mathlib.Omega.{arith}

@@ -1,6 +1,6 @@
--- The code tests the factors of the definition, each once.
+-- The code makes each test of the definition once.
 use borrow.Author.Needs.{needs}
-use Rattle.quick_laws.specs.Quick.{enough}
+use Rattle.quick_laws.specs.Quick.{isEnough}
 use Rattle.quick.proofs.is_enough.Statement.{statement}
 use Rattle.quick.proofs.is_enough.Tie as tie
 
@@ -20,7 +20,7 @@ both-requires-4 : tie.Need-both-requires-4
 both-requires-4 c κs = search needs
 
 returns : tie.Need-returns
-unfolding enough
+unfolding isEnough
 returns c =
     let b = c .before .before .before in
     rw (

@@ -1,11 +1,11 @@
--- The code tests the factors of the definition, each once.
+-- The code makes each test of the definition once.
 use borrow.Author.Needs.{needs}
-use Rattle.quick_laws.specs.Quick.{tried}
+use Rattle.quick_laws.specs.Quick.{isTried}
 use Rattle.quick.proofs.is_tried.Statement.{statement}
 use Rattle.quick.proofs.is_tried.Tie as tie
 
-least-requires : tie.Need-least-requires
-least-requires c κs = search needs
+least-of-requires : tie.Need-least-of-requires
+least-of-requires c κs = search needs
 
 both-requires : tie.Need-both-requires
 both-requires c κs = search needs
@@ -14,8 +14,8 @@ both-requires-2 : tie.Need-both-requires-2
 both-requires-2 c κs = search needs
 
 returns : tie.Need-returns
-unfolding tried
-returns c = rw (c .both2 .ensures, c .before .both .ensures, c .before .before .least .ensures)
+unfolding isTried
+returns c = rw (c .both2 .ensures, c .before .both .ensures, c .before .before .least-of .ensures)
 
 pub is-tried-spec : {M : Type 1} → statement M
-is-tried-spec = tie.close (tie.spec least-requires both-requires both-requires-2 returns)
+is-tried-spec = tie.close (tie.spec least-of-requires both-requires both-requires-2 returns)

@@ -1,9 +1,9 @@
--- Where a quick pass is enough, its bound or the sum of the weights answers; else the other pass decides.
+-- If the tests of the quick pass hold, its bound or the sum of the weights answers; else the exact pass does.
 use native.Mathlib.Omega.{arith}
 use borrow.Author.Needs.{needs}
 use borrow.Author.Tests.{leb-true}
-use Rattle.quick_laws.specs.QuickLaws.{tried-tests}
-use Rattle.quick_laws.specs.RowsLaws.{enough-fits, bounded-fits}
+use Rattle.quick_laws.specs.QuickLaws.{isTried-tests}
+use Rattle.quick_laws.specs.RowsLaws.{isEnough-weighs, bounded-weighs}
 use Rattle.quick.proofs.sound_buckets.Statement.{statement}
 use Rattle.quick.proofs.sound_buckets.Tie as tie
 
@@ -13,17 +13,17 @@ shared-slice-read-first c = search needs
 is-tried-requires : tie.Need-is-tried-requires
 is-tried-requires c κs = search needs
 
-least-requires : tie.Need-least-requires
-least-requires c κs = search needs
+least-of-requires : tie.Need-least-of-requires
+least-of-requires c κs = search needs
 
-most-requires : tie.Need-most-requires
-most-requires c κs = search needs
+most-of-requires : tie.Need-most-of-requires
+most-of-requires c κs = search needs
 
 quick-buckets-requires : tie.Need-quick-buckets-requires
 quick-buckets-requires c κs =
     let t = c .before .before .before in
     let a = t .before .before .before .before .args in
-    let p = tried-tests (a .count) (a .i) .0 (rw (t .before .is-tried .ensures) at (t .if1 .taken)) in
+    let p = isTried-tests (a .count) (a .i) .0 (rw (t .before .is-tried .ensures) at (t .if1 .taken)) in
     (omega (arith, t .before .before .before .before .pre), omega (arith, t .before .before .before .before .pre), p .1)
 
 is-enough-requires : tie.Need-is-enough-requires
@@ -41,9 +41,9 @@ returns c =
     let t = m .before .before in
     let s = t .before .before .before .before in
     let a = s .args in
-    let rows = rw (m .most .ensures, m .before .least .ensures) at (q .quick-buckets .ensures) in
-    let bound = rw (b .is-bounded .ensures, m .before .least .ensures) at (c .if4 .taken) in
-    bounded-fits (a .level .now) (a .count) (a .k) (omega (arith, s .pre)) (a .i) (a .total) (q .quick-buckets .result) (omega (arith, s .pre))
+    let rows = rw (m .most-of .ensures, m .before .least-of .ensures) at (q .quick-buckets .ensures) in
+    let bound = rw (b .is-bounded .ensures, m .before .least-of .ensures) at (c .if4 .taken) in
+    bounded-weighs (a .level .now) (a .count) (a .k) (omega (arith, s .pre)) (a .i) (a .total) (q .quick-buckets .result) (omega (arith, s .pre))
     (rw (t .before .is-tried .ensures) at (t .if1 .taken)) rows (rw (e .is-enough .ensures) at (b .before .if3 .taken)) (q .before .if2 .taken)
     (leb-true _ _ bound)
 
@@ -65,9 +65,9 @@ returns-2 c =
     let t = m .before .before in
     let s = t .before .before .before .before in
     let a = s .args in
-    let rows = rw (m .most .ensures, m .before .least .ensures) at (q .quick-buckets .ensures) in
+    let rows = rw (m .most-of .ensures, m .before .least-of .ensures) at (q .quick-buckets .ensures) in
     rw (c .weighs .ensures, c .before .long .ensures .0)
-    (enough-fits (a .level .now) (a .count) (a .k) (omega (arith, s .pre)) (a .i) (a .total) (q .quick-buckets .result) (w .weight-of .result)
+    (isEnough-weighs (a .level .now) (a .count) (a .k) (omega (arith, s .pre)) (a .i) (a .total) (q .quick-buckets .result) (w .weight-of .result)
     (omega (arith, s .pre)) (omega (arith, s .pre)) (rw (t .before .is-tried .ensures) at (t .if1 .taken)) rows
     (rw (e .is-enough .ensures) at (w .before .before .before .if3 .taken)) (w .weight-of .ensures))
 
@@ -75,7 +75,7 @@ quick-buckets-requires-2 : tie.Need-quick-buckets-requires-2
 quick-buckets-requires-2 c κs =
     let t = c .before .before .before in
     let a = t .before .before .before .before .args in
-    let p = tried-tests (a .count) (a .i) .0 (rw (t .before .is-tried .ensures) at (t .if1 .taken)) in
+    let p = isTried-tests (a .count) (a .i) .0 (rw (t .before .is-tried .ensures) at (t .if1 .taken)) in
     (omega (arith, t .before .before .before .before .pre), omega (arith, t .before .before .before .before .pre), p .1)
 
 is-enough-requires-2 : tie.Need-is-enough-requires-2
@@ -99,9 +99,9 @@ returns-3 c =
     let t = m .before .before in
     let s = t .before .before .before .before in
     let a = s .args in
-    let rows = rw (m .most .ensures, m .before .least .ensures) at (q .quick-buckets2 .ensures) in
+    let rows = rw (m .most-of .ensures, m .before .least-of .ensures) at (q .quick-buckets2 .ensures) in
     rw (c .weighs2 .ensures, c .before .long2 .ensures .0)
-    (enough-fits (a .level .now) (a .count) (a .k) (omega (arith, s .pre)) (a .i) (a .total) (q .quick-buckets2 .result) (w .weight-of2 .result)
+    (isEnough-weighs (a .level .now) (a .count) (a .k) (omega (arith, s .pre)) (a .i) (a .total) (q .quick-buckets2 .result) (w .weight-of2 .result)
     (omega (arith, s .pre)) (omega (arith, s .pre)) (rw (t .before .is-tried .ensures) at (t .if1 .taken)) rows
     (rw (e .is-enough2 .ensures) at (w .before .if5 .taken)) (w .weight-of2 .ensures))
 
@@ -125,8 +125,8 @@ sound-buckets-spec =
     (tie.spec
     shared-slice-read-first
     is-tried-requires
-    least-requires
-    most-requires
+    least-of-requires
+    most-of-requires
     quick-buckets-requires
     is-enough-requires
     is-bounded-requires

@@ -1,4 +1,4 @@
--- Invariant: what is added and then the slots from `at` on weigh what all slots do, up to a multiple of 2 ^ 32.
+-- Invariant: the sum so far and the weights of the slots from `at` on are the weight of all slots, modulo 2 ^ 32.
 use mathlib.Core.Path.{_≡_, ap}
 use Prim.Native.Nat.{_+_, _-_, _%_, _^_, _<_}
 use native.Mathlib.Omega.{arith}

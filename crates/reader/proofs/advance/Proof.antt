@@ -1,4 +1,4 @@
--- Each arm takes one state, and its test of the byte is that of `moved`.
+-- Each arm takes one state, and tests the byte as `moved` does.
 use mathlib.Core.Path.{sym, _∙_}
 use borrow.Author.Tests.{eq-eqb, ne-eqb}
 use Rattle.shape.specs.LimitsLaws.{between-limits}

@@ -1,4 +1,4 @@
--- The count of numbers leaves one letter, and the test of it is that of `called`.
+-- Each count of numbers leaves one letter, which is tested as in `called`.
 use borrow.Author.Tests.{ne-eqb}
 use Rattle.grammar.specs.Grammar.{readingOf}
 use borrow.Author.Needs.{needs}

@@ -1,4 +1,4 @@
--- The two arms are the two cases of the test that the definition makes.
+-- The two branches are the two cases of the test in the definition.
 use borrow.Author.Tests.{lt-ltb, le-ltb}
 use Rattle.row.proofs.mask.Statement.{statement}
 use Rattle.row.proofs.mask.Tie as tie

@@ -1,4 +1,4 @@
--- Each step is one of the definition, on the slot that the fields show.
+-- Each step is a step of the definition, on the slot that it reads.
 use native.Mathlib.Omega.{arith}
 use borrow.Author.Needs.{needs}
 use Rattle.row.proofs.quick_row.Statement.{statement}

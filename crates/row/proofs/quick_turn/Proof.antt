@@ -1,7 +1,7 @@
 -- Each row and each seam is that of the definition.
 use native.Mathlib.Omega.{arith}
 use borrow.Author.Needs.{needs}
-use Rattle.quick_laws.specs.Rows.{turn}
+use Rattle.quick_laws.specs.Rows.{quickTurn}
 use Rattle.row.proofs.quick_turn.Statement.{statement}
 use Rattle.row.proofs.quick_turn.Tie as tie
 
@@ -33,7 +33,7 @@ end-at-requires : tie.Need-end-at-requires
 end-at-requires c κs = omega (arith, c .before .before .before .before .before .before .before .before .before .before .before .before .before .before .before .pre)
 
 returns : tie.Need-returns
-unfolding turn
+unfolding quickTurn
 returns c =
     let s = c .before .before .before in
     let r = s .before .before .before .before in

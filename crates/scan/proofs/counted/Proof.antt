@@ -1,4 +1,4 @@
--- The two arms are the two cases of the test that the definition makes.
+-- The two branches are the two cases of the test in the definition.
 use native.Mathlib.Omega.{arith}
 use borrow.Author.Needs.{needs}
 use borrow.Author.Tests.{le-leb, lt-leb}

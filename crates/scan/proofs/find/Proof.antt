@@ -1,17 +1,17 @@
--- Invariant: the place lies between low and high, as the span says at first. The slot in the middle, which is below high, tells in which half.
+-- Invariant: the slot lies between low and high, at first by the span. The slot in the middle, which is below high, says in which half.
 use mathlib.Core.Path.{_≡_, ap, _∙_}
 use Prim.Native.Nat.{_+_, _-_, _/_, _≤_}
 use native.Mathlib.Omega.{arith}
 use borrow.Author.Needs.{needs}
 use lib.ListN.{getD}
 use Rattle.model.specs.Words.{slot, decodeLevel}
-use Rattle.laws.specs.Place.{place, endOf, slot-most, slot-least}
+use Rattle.laws.specs.SlotOf.{slotOf, endOf, slot-most, slot-least}
 use Rattle.scan.proofs.find.Statement.{statement}
 use Rattle.scan.proofs.find.Tie as tie
 
 abbrev Inv-loop : tie.InvT-loop
 Inv-loop level x low₀ high₀ low high =
-    let p = place x (decodeLevel level .buckets) in (low ≤ p) × (p ≤ high) × (high ≤ getD level 0 0)
+    let p = slotOf x (decodeLevel level .buckets) in (low ≤ p) × (p ≤ high) × (high ≤ getD level 0 0)
 
 abbrev μ-loop : tie.MeasureT-loop
 μ-loop level x low₀ high₀ low high = high - low

@@ -1,4 +1,4 @@
--- Invariant: the place is at most high, and the step is not 0, so the slot that is looked at is below high.
+-- Invariant: the slot of x is at most high, and the step is not 0, so the slot that is tested is below high.
 use mathlib.Core.Path.{sym, _∙_}
 use Prim.Native.Nat.{_-_, _≤_, _<_}
 use native.Mathlib.Omega.{arith}
@@ -6,13 +6,13 @@ use borrow.Author.Needs.{needs}
 use lib.ListN.{getD}
 use Rattle.model.specs.Words.{slots, decodeLevel}
 use Rattle.laws.specs.LevelWords.{length-slots}
-use Rattle.laws.specs.Place.{place, place-le}
+use Rattle.laws.specs.SlotOf.{slotOf, slotOf-le}
 use Rattle.scan.specs.Search.{past-most, past-least}
 use Rattle.scan.proofs.gallop.Statement.{statement}
 use Rattle.scan.proofs.gallop.Tie as tie
 
 abbrev Inv-loop : tie.InvT-loop
-Inv-loop level x high₀ step₀ high step = (0 < step) × (place x (decodeLevel level .buckets) ≤ high) × (high ≤ getD level 0 0)
+Inv-loop level x high₀ step₀ high step = (0 < step) × (slotOf x (decodeLevel level .buckets) ≤ high) × (high ≤ getD level 0 0)
 
 abbrev μ-loop : tie.MeasureT-loop
 μ-loop level x high₀ step₀ high step = high
@@ -29,16 +29,16 @@ loop-holds c =
     let a = c .before .before .before .args in
     let ws = a .level .now in
     let all = getD ws 0 0 in
-    omega (arith, place-le (a .x) (slots ws 0 all), length-slots ws 0 all)
+    omega (arith, slotOf-le (a .x) (slots ws 0 all), length-slots ws 0 all)
 
 is-past-requires : tie.Need-is-past-requires Inv-loop μ-loop
 is-past-requires c κs = omega arith
 
--- the slot that was looked at is there, and bounds the place
+-- the tested slot exists, and bounds the slot of x
 stepped : (c : tie.Then1 Inv-loop μ-loop) →
     let l = c .before .before in
     let a = l .before .before .before .before .args in
-    (l .loop .step ≤ l .loop .high) × (place (a .x) (decodeLevel (a .level .now) .buckets) ≤ l .loop .high - l .loop .step)
+    (l .loop .step ≤ l .loop .high) × (slotOf (a .x) (decodeLevel (a .level .now) .buckets) ≤ l .loop .high - l .loop .step)
 stepped c =
     let l = c .before .before in
     let a = l .before .before .before .before .args in

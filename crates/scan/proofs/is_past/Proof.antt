@@ -1,9 +1,9 @@
--- The slot is below `high`, so it is there.
+-- The slot is below `high`, so it exists.
 use mathlib.Core.Path.{_≡_, ap, _∙_}
 use Prim.Native.Nat.{_-_}
 use borrow.Author.Needs.{needs}
 use borrow.Author.Tests.{le-leb, lt-leb}
-use Rattle.laws.specs.Place.{endOf}
+use Rattle.laws.specs.SlotOf.{endOf}
 use Rattle.model.specs.Words.{slot}
 use Rattle.scan.proofs.is_past.Statement.{statement}
 use Rattle.scan.proofs.is_past.Tie as tie

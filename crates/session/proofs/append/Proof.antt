@@ -1,4 +1,4 @@
--- What is spelled stands behind the bytes that wait, and is short.
+-- The line is written after the bytes that wait, and is short.
 use mathlib.Core.List.{List}
 use Prim.Native.Nat.{ℕ, _-_}
 use native.Mathlib.Omega.{arith}

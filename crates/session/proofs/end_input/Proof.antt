@@ -1,4 +1,4 @@
--- The test tells whether a line has begun.
+-- The test says whether a line has begun.
 use mathlib.Core.Path.{sym, _∙_}
 use native.Mathlib.Omega.{arith}
 use Rattle.session.specs.Session.{benchOf}

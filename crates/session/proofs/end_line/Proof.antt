@@ -1,4 +1,4 @@
--- What the three calls give is put together.
+-- What the three calls give is what the definition says.
 use Rattle.session.specs.SessionLaws.{line-ended}
 use borrow.Author.Needs.{needs}
 use Rattle.session.proofs.end_line.Statement.{statement}

@@ -1,4 +1,4 @@
--- What the bytes that are left do to the state is what all of them do to the first one, before each turn.
+-- Invariant: feeding the bytes that are left to the state is feeding all of them to the first state.
 use mathlib.Core.Path.{_≡_, ap, _∙_}
 use mathlib.Core.List.{foldl}
 use Prim.Native.Nat.{suc, _+_, _*_, _-_, _≤_}

@@ -1,4 +1,4 @@
--- The test tells whether the byte is a newline.
+-- The test says whether the byte is a newline.
 use mathlib.Core.Path.{sym, _∙_}
 use Rattle.session.specs.Session.{benchOf}
 use Rattle.session.specs.SessionLaws.{byte-added, at-newline, at-other}

@@ -1,6 +1,6 @@
--- The match tells what is said.
+-- The match says which answer it is.
 use mathlib.Core.Path.{sym, ap, _∙_}
-use Rattle.text.specs.Text.{written, put}
+use Rattle.text.specs.Text.{written, stored}
 use Rattle.lent.specs.declared.Said.{Said}
 use Rattle.lent.specs.Said.{saidText}
 use borrow.Author.Needs.{needs}
@@ -29,7 +29,7 @@ returns c =
     let t = a .before .before .before in
     let out = t .before .before .before .args .out .now in (
       a .answer .ensures .0 ∙ ap (λ (s : Said). written (saidText s) out) (sym (t .said .given .1)),
-      a .answer .ensures .1 ∙ ap (λ (s : Said). put (saidText s) out) (sym (t .said .given .1)),
+      a .answer .ensures .1 ∙ ap (λ (s : Said). stored (saidText s) out) (sym (t .said .given .1)),
     )
 
 same-length-2 : tie.Need-same-length-2
@@ -42,7 +42,7 @@ returns-2 c =
     let t = a .before .before in
     let out = t .before .before .before .args .out .now in (
       a .unread .ensures .0 ∙ ap (λ (s : Said). written (saidText s) out) (sym (t .enum-told .given .1)),
-      a .unread .ensures .1 ∙ ap (λ (s : Said). put (saidText s) out) (sym (t .enum-told .given .1)),
+      a .unread .ensures .1 ∙ ap (λ (s : Said). stored (saidText s) out) (sym (t .enum-told .given .1)),
     )
 
 pub spell-spec : {M : Type 1} → statement M

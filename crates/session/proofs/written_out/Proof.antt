@@ -1,4 +1,4 @@
--- No byte of the output waits.
+-- After writing out, no byte of the output waits.
 use mathlib.Core.Path.{refl}
 use Rattle.session.specs.Session.{writtenOut}
 use borrow.Author.Needs.{needs}

@@ -1,4 +1,4 @@
--- Invariant: the bits so far are none and the words from `at` on are zero just where all from `from` on are.
+-- Invariant: the bits so far are 0 and the words from `at` on are zero exactly if all words from `from` on are.
 use mathlib.Core.Bool.{_&&_, and-true}
 use mathlib.Core.Path.{_≡_, refl, sym, _∙_}
 use Prim.Native.Nat.{_-_}

@@ -1,4 +1,4 @@
--- Invariant: the bits so far are none and the words of all four from `at` on are zero just where all are.
+-- Invariant: the bits so far are 0 and the words of all four parts from `at` on are zero exactly if all are.
 use mathlib.Core.Bool.{_&&_}
 use mathlib.Core.Path.{_≡_, refl, _∙_}
 use Prim.Native.Nat.{_-_, _≤_}

@@ -1,4 +1,4 @@
--- Each test is one factor of `soundLevel`.
+-- Each test is one conjunct of `soundLevel`.
 use mathlib.Core.Bool.{Bool, true, false, _&&_}
 use mathlib.Core.Path.{_≡_, refl, ap}
 use lib.Dec.{leb, ltb, eqb}

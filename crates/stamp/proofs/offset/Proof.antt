@@ -1,4 +1,4 @@
--- The divisor is a power, which is not 0.
+-- The divisor is a power of two, which is not 0.
 use native.Mathlib.Omega.{arith}
 use lib.Pow.{pow-pos}
 use borrow.Author.Needs.{needs}

@@ -1,4 +1,4 @@
--- The block of the grade alone is handed on; its sum is the answer.
+-- Only the block of the grade is handed on; its sum is the answer.
 use borrow.Author.Needs.{needs}
 use Rattle.judge.specs.Judge.{open-inside, open-whole}
 use Rattle.summary.specs.Outcome.{query-inside, query-sound, asked-outcome}

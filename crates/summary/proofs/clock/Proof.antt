@@ -1,8 +1,10 @@
--- A refused call leaves every word; else the judged book is open.
+-- A refused call changes no word; otherwise the book is open.
 use borrow.Author.Needs.{needs}
-use mathlib.Core.Path.{subst}
+use mathlib.Core.Path.{ap, sym, _∙_}
 use Rattle.model.specs.declared.Call.the-variants.{Clock}
-use Rattle.judge.specs.Judge.{Judges, judges-open}
+use Rattle.book.specs.Judgement.{openedOf}
+use Rattle.book.specs.Head.{judgement-told}
+use Rattle.judge.specs.Judge.{judges-open}
 use Rattle.summary.specs.Outcome.{refused-outcome}
 use Rattle.summary.proofs.clock.Statement.{statement}
 use Rattle.summary.proofs.clock.Tie as tie
@@ -17,7 +19,7 @@ set-clock-requires : tie.Need-set-clock-requires
 set-clock-requires c κs =
     let a = c .before .before .before .before .before .before .before .args in
     let told = c .before .before .shape .given in
-    let j = subst (Judges (a .book .now) (Clock (a .to))) (told .1) (c .before .before .before .before .judge-clock .ensures) in
+    let j = judgement-told _ _ _ (ap openedOf (sym (told .1)) ∙ c .before .before .before .before .judge-clock .ensures) in
     (judges-open (a .book .now) (told .0 .0) (told .0 .1 .0) (Clock (a .to)) tt j, j .0)
 
 enum-known-r : tie.Need-enum-known-r
@@ -36,7 +38,7 @@ returns-2 : tie.Need-returns-2
 returns-2 c =
     let a = c .before .before .before .before .before .before .args in
     let told = c .before .r .given in
-    refused-outcome (a .book .now) (Clock (a .to)) (told .0 .0) (subst (Judges (a .book .now) (Clock (a .to))) (told .1) (c .before .before .before .judge-clock .ensures))
+    refused-outcome (a .book .now) (Clock (a .to)) (told .0 .0) (judgement-told _ _ _ (ap openedOf (sym (told .1)) ∙ c .before .before .before .judge-clock .ensures))
 
 pub clock-spec : {M : Type 1} → statement M
 clock-spec =

@@ -1,11 +1,11 @@
--- The block of the grade alone is handed on, and comes back with the delivery.
+-- Only the block of the grade is handed on, and it comes back with the delivery.
 use native.Mathlib.Omega.{arith}
 use borrow.Author.Needs.{needs}
 use borrow.Rule.Slice.PartMut.{post-is}
 use Prim.Native.Nat.{_+_}
 use native.Mathlib.Nat.{add-sub-cancel-left}
 use Rattle.book.specs.Part.{block-within}
-use Rattle.summary.specs.Outcome.{delivery-inside, delivery-takes, delivered-outcome}
+use Rattle.summary.specs.Outcome.{delivery-inside, delivery-deliverable, delivered-outcome}
 use Rattle.summary.proofs.deliver.Statement.{statement}
 use Rattle.summary.proofs.deliver.Tie as tie
 
@@ -40,7 +40,7 @@ deliver-block-requires : tie.Need-deliver-block-requires
 deliver-block-requires c κs =
     let d = c .before .before .before .before in
     rw (c .before .before .block-start .ensures, c .before .block-len .ensures, add-sub-cancel-left)
-    (delivery-takes (d .args .book .now) (d .args .shape) (d .args .grade) (d .args .stamp) (d .args .volume) (d .pre .0) (d .pre .1))
+    (delivery-deliverable (d .args .book .now) (d .args .shape) (d .args .grade) (d .args .stamp) (d .args .volume) (d .pre .0) (d .pre .1))
 
 same-length : tie.Need-same-length
 same-length c = search needs

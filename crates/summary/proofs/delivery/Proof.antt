@@ -1,8 +1,9 @@
--- A refused call leaves every word; else the judged book takes the delivery.
+-- A refused call changes no word; otherwise the book takes the delivery.
 use borrow.Author.Needs.{needs}
-use mathlib.Core.Path.{subst}
+use mathlib.Core.Path.{ap, sym, _∙_}
 use Rattle.model.specs.declared.Call.the-variants.{Delivery}
-use Rattle.judge.specs.Judge.{Judges}
+use Rattle.book.specs.Judgement.{openedOf}
+use Rattle.book.specs.Head.{judgement-told}
 use Rattle.summary.specs.Outcome.{refused-outcome}
 use Rattle.summary.proofs.delivery.Statement.{statement}
 use Rattle.summary.proofs.delivery.Tie as tie
@@ -17,7 +18,7 @@ deliver-requires : tie.Need-deliver-requires
 deliver-requires c κs =
     let a = c .before .before .before .before .before .before .before .args in
     let told = c .before .before .shape .given in
-    let j = subst (Judges (a .book .now) (Delivery (a .grade) (a .stamp) (a .volume))) (told .1) (c .before .before .before .before .judge-delivery .ensures) in
+    let j = judgement-told _ _ _ (ap openedOf (sym (told .1)) ∙ c .before .before .before .before .judge-delivery .ensures) in
     (j .1, j .0)
 
 enum-known-r : tie.Need-enum-known-r
@@ -37,7 +38,7 @@ returns-2 c =
     let a = c .before .before .before .before .before .before .args in
     let told = c .before .r .given in
     let call = Delivery (a .grade) (a .stamp) (a .volume) in
-    refused-outcome (a .book .now) call (told .0 .0) (subst (Judges (a .book .now) call) (told .1) (c .before .before .before .judge-delivery .ensures))
+    refused-outcome (a .book .now) call (told .0 .0) (judgement-told _ _ _ (ap openedOf (sym (told .1)) ∙ c .before .before .before .judge-delivery .ensures))
 
 pub delivery-spec : {M : Type 1} → statement M
 delivery-spec =

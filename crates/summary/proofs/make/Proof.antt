@@ -1,4 +1,4 @@
--- The constructor refuses what is outside the limits; else the shape is the one of these numbers.
+-- The constructor refuses what is outside the limits; otherwise the shape is that of these numbers.
 use borrow.Author.Needs.{needs}
 use mathlib.Core.Path.{refl, sym, ap, _∙_}
 use Rattle.shape.specs.declared.Shape.{Shape}

@@ -1,4 +1,4 @@
--- A misfit is refused; else the head is written and every block emptied.
+-- A wrong length is refused; otherwise the head is written and every block emptied.
 use borrow.Author.Needs.{needs}
 use mathlib.Core.Path.{sym, _∙_}
 use Rattle.summary.specs.Outcome.{book-long, misfit-outcome, made-outcome}

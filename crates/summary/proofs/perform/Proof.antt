@@ -1,4 +1,4 @@
--- Each call is its own function, and the match tells which call it was.
+-- Each call has its own function, and the match says which call it is.
 use borrow.Author.Needs.{needs}
 use mathlib.Core.Path.{sym, ap, _∙_}
 use Rattle.model.specs.Calls.{perform}

@@ -1,8 +1,10 @@
--- A refused question answers its number; else the judged book is open.
+-- A refused question answers its number; otherwise the book is open.
 use borrow.Author.Needs.{needs}
-use mathlib.Core.Path.{subst}
+use mathlib.Core.Path.{ap, sym, _∙_}
 use Rattle.model.specs.declared.Call.the-variants.{Query}
-use Rattle.judge.specs.Judge.{Judges, judges-open}
+use Rattle.book.specs.Judgement.{openedOf}
+use Rattle.book.specs.Head.{judgement-told}
+use Rattle.judge.specs.Judge.{judges-open}
 use Rattle.summary.specs.Outcome.{refused-outcome}
 use Rattle.summary.proofs.query.Statement.{statement}
 use Rattle.summary.proofs.query.Tie as tie
@@ -18,7 +20,7 @@ ask-requires c κs =
     let a = c .before .before .before .before .before .args in
     let told = c .before .shape .given in
     let call = Query (a .grade) (a .window) in
-    let j = subst (Judges (a .book .now) call) (told .1) (c .before .before .before .judge-query .ensures) in
+    let j = judgement-told _ _ _ (ap openedOf (sym (told .1)) ∙ c .before .before .before .judge-query .ensures) in
     (judges-open (a .book .now) (told .0 .0) (told .0 .1 .0) call tt j, j .0)
 
 enum-known-r : tie.Need-enum-known-r
@@ -32,7 +34,7 @@ returns-2 c =
     let a = c .before .before .before .before .before .args in
     let told = c .before .r .given in
     let call = Query (a .grade) (a .window) in
-    refused-outcome (a .book .now) call (told .0 .0) (subst (Judges (a .book .now) call) (told .1) (c .before .before .before .judge-query .ensures))
+    refused-outcome (a .book .now) call (told .0 .0) (judgement-told _ _ _ (ap openedOf (sym (told .1)) ∙ c .before .before .before .judge-query .ensures))
 
 pub query-spec : {M : Type 1} → statement M
 query-spec = tie.close (tie.spec judge-query-requires enum-known-shape ask-requires enum-known-r returns returns-2)

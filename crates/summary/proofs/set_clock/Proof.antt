@@ -1,4 +1,4 @@
--- The head is written anew, the blocks stay sound under it and are advanced.
+-- The head is written; the blocks stay sound under it and are advanced.
 use borrow.Author.Needs.{needs}
 use Rattle.judge.specs.Judge.{open-size}
 use Rattle.summary.specs.Outcome.{book-long, headed-sound, clocked-outcome}

@@ -1,10 +1,10 @@
--- After each turn one block more is advanced and the others are as they were.
+-- Invariant: after each turn one more block is advanced, and the others are as they were.
 use borrow.Author.Needs.{needs}
 use mathlib.Core.Path.{_≡_, refl, sym, _∙_}
 use Prim.Native.Nat.{_-_, _≤_}
 use native.Mathlib.Numerals.{add-one}
 use lib.ListN.{length}
-use Rattle.laws.specs.Sweep.{swept, swept-none, swept-part, swept-more, swept-all}
+use Rattle.laws.specs.BookWrites.{swept, swept-none, swept-part, swept-more, swept-all}
 use Rattle.sweep.specs.Sweeps.{advanced, advanced-size}
 use native.Mathlib.Omega.{arith}
 use Rattle.sweep.proofs.advance_blocks.Statement.{statement}

@@ -1,4 +1,4 @@
--- The measure is the room that is left, and each way stores what `digitsOf` says.
+-- The measure is the room that is left. Each branch stores what `digitsOf` says.
 use mathlib.Core.Path.{refl, sym}
 use native.Mathlib.Nat.{add-zero}
 use borrow.Author.Tests.{lt-ltb}

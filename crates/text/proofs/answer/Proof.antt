@@ -1,15 +1,15 @@
--- A short buffer is left alone, and in any other each case stores its own text from the front on.
+-- A short buffer is left alone. In any other, each case stores its own text from the front on.
 use Rattle.model.specs.Reply.{replyOf}
 use Rattle.model.specs.declared.Answer.the-variants.{Done, Sum}
 use Rattle.text.specs.Text.{sumWord, refusedWord, numbered, textOf}
-use Rattle.text.specs.TextLaws.{written-none, put-none, stored-front, numbered-fits, refused-text}
+use Rattle.text.specs.TextLaws.{written-none, stored-none, stored-front, numbered-fits, refused-text}
 use native.Mathlib.Omega.{arith}
 use borrow.Author.Needs.{needs}
 use Rattle.text.proofs.answer.Statement.{statement}
 use Rattle.text.proofs.answer.Tie as tie
 
 returns : tie.Need-returns
-returns c = (written-none _ _ (c .if1 .taken), put-none _ _ (c .if1 .taken))
+returns c = (written-none _ _ (c .if1 .taken), stored-none _ _ (c .if1 .taken))
 
 enum-told : tie.Need-enum-told
 enum-told c = search needs

@@ -1,4 +1,4 @@
--- What is still to be stored, stored behind what is there, is the whole text, before each turn.
+-- Invariant: what is stored, and after it what is still to be stored, is the whole text.
 use mathlib.Core.Path.{_≡_, refl}
 use Prim.Native.Nat.{suc, _+_, _-_, _≤_}
 use native.Mathlib.Nat.{add-zero}

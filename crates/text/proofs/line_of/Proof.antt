@@ -1,4 +1,4 @@
--- The word, the digits and the newline are stored one after the other, which is the line stored whole.
+-- Storing the word, the digits and the newline one after the other is storing the whole line.
 use mathlib.Core.Path.{ap, _∙_}
 use lib.ListN.{length}
 use lib.Seq.{length-sets}

@@ -1,13 +1,13 @@
--- A short buffer is left alone, and in any other the text is stored from the front on.
+-- A short buffer is left alone. In any other, the text is stored from the front on.
 use Rattle.text.specs.Text.{unreadText}
-use Rattle.text.specs.TextLaws.{written-none, put-none, stored-front}
+use Rattle.text.specs.TextLaws.{written-none, stored-none, stored-front}
 use native.Mathlib.Omega.{arith}
 use borrow.Author.Needs.{needs}
 use Rattle.text.proofs.unread.Statement.{statement}
 use Rattle.text.proofs.unread.Tie as tie
 
 returns : tie.Need-returns
-returns c = (written-none unreadText _ (c .if1 .taken), put-none unreadText _ (c .if1 .taken))
+returns c = (written-none unreadText _ (c .if1 .taken), stored-none unreadText _ (c .if1 .taken))
 
 slice-aggregate-copy : tie.Need-slice-aggregate-copy
 slice-aggregate-copy c = search needs

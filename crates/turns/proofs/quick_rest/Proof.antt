@@ -1,4 +1,4 @@
--- Invariant: what is seen and then the slots from `next` on come to what all slots from `from` on do.
+-- Invariant: what is collected so far, continued over the slots from `next` on, is what all slots from `from` on give.
 use mathlib.Core.Path.{_≡_, refl}
 use Prim.Native.Nat.{_-_}
 use Rattle.model.specs.Words.{slots}

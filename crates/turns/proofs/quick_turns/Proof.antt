@@ -2,7 +2,7 @@
 use Prim.Native.Nat.{_+_, _-_, _≤_}
 use native.Mathlib.Omega.{arith}
 use lib.ListN.{length}
-use Rattle.quick_laws.specs.RowsLaws.{Turning, turns-start, turns-room, turns-next, goes-room}
+use Rattle.quick_laws.specs.RowsLaws.{Turning, quickTurns-start, quickTurns-room, quickTurns-next, goes-room}
 use borrow.Author.Needs.{needs}
 use Rattle.turns.proofs.quick_turns.Statement.{statement}
 use Rattle.turns.proofs.quick_turns.Tie as tie
@@ -13,23 +13,23 @@ Inv-loop level count least most t₀ rest₀ at₀ t rest at = Turning least mos
 abbrev μ-loop : tie.MeasureT-loop
 μ-loop level count least most t₀ rest₀ at₀ t rest at = count - at
 
-shared-slice-read-begin : tie.Need-shared-slice-read-begin Inv-loop μ-loop
-shared-slice-read-begin c = search needs
+shared-slice-read-fresh : tie.Need-shared-slice-read-fresh Inv-loop μ-loop
+shared-slice-read-fresh c = search needs
 
-shared-slice-read-begin-2 : tie.Need-shared-slice-read-begin-2 Inv-loop μ-loop
-shared-slice-read-begin-2 c = search needs
+shared-slice-read-fresh-2 : tie.Need-shared-slice-read-fresh-2 Inv-loop μ-loop
+shared-slice-read-fresh-2 c = search needs
 
-begin-requires : tie.Need-begin-requires Inv-loop μ-loop
-begin-requires c κs = search needs
+fresh-requires : tie.Need-fresh-requires Inv-loop μ-loop
+fresh-requires c κs = search needs
 
-begin-requires-2 : tie.Need-begin-requires-2 Inv-loop μ-loop
-begin-requires-2 c κs = search needs
+fresh-requires-2 : tie.Need-fresh-requires-2 Inv-loop μ-loop
+fresh-requires-2 c κs = search needs
 
-begin-requires-3 : tie.Need-begin-requires-3 Inv-loop μ-loop
-begin-requires-3 c κs = search needs
+fresh-requires-3 : tie.Need-fresh-requires-3 Inv-loop μ-loop
+fresh-requires-3 c κs = search needs
 
-begin-requires-4 : tie.Need-begin-requires-4 Inv-loop μ-loop
-begin-requires-4 c κs = search needs
+fresh-requires-4 : tie.Need-fresh-requires-4 Inv-loop μ-loop
+fresh-requires-4 c κs = search needs
 
 shared-slice-read-t17 : tie.Need-shared-slice-read-t17 Inv-loop μ-loop
 shared-slice-read-t17 c = search needs
@@ -47,8 +47,8 @@ loop-holds : tie.Need-loop-holds Inv-loop μ-loop
 loop-holds c =
     let b = c .before .before in
     let a = c .before .before .before .before .before .before .before .before .before .args in
-    rw (b .begin4 .ensures, b .before .begin3 .ensures, b .before .before .begin2 .ensures, b .before .before .before .begin .ensures)
-    (turns-start (a .least) (a .most) (a .level .now) (a .count))
+    rw (b .fresh4 .ensures, b .before .fresh3 .ensures, b .before .before .fresh2 .ensures, b .before .before .before .fresh .ensures)
+    (quickTurns-start (a .least) (a .most) (a .level .now) (a .count))
 
 goes-on-requires : tie.Need-goes-on-requires Inv-loop μ-loop
 goes-on-requires c κs = omega (arith, c .loop .inv .0 .within)
@@ -61,7 +61,7 @@ left : (c : tie.Then1 Inv-loop μ-loop) → 48 ≤ length (c .before .before .lo
 left c =
     let l = c .before .before in
     let a = l .before .before .before .before .before .before .before .before .before .before .args in
-    turns-room (a .least) (a .most) (a .level .now) (a .count) (l .loop .t) (l .loop .rest .now) (l .loop .at) (l .loop .inv) (omega (arith, l .before .before .before .before .before .before .before .before .before .before .pre)) (more c)
+    quickTurns-room (a .least) (a .most) (a .level .now) (a .count) (l .loop .t) (l .loop .rest .now) (l .loop .at) (l .loop .inv) (omega (arith, l .before .before .before .before .before .before .before .before .before .before .pre)) (more c)
 
 quick-turn-requires : tie.Need-quick-turn-requires Inv-loop μ-loop
 quick-turn-requires c κs = left c
@@ -86,7 +86,7 @@ loop-again c =
     let l = c .before .before .before .before in
     let a = l .before .before .before .before .before .before .before .before .before .before .args in
     rw (c .before .quick-turn .ensures)
-    (turns-next (a .least) (a .most) (a .level .now) (a .count) (l .loop .t) (l .loop .rest .now) (l .loop .at) (l .loop .inv) (more (c .before .before)))
+    (quickTurns-next (a .least) (a .most) (a .level .now) (a .count) (l .loop .t) (l .loop .rest .now) (l .loop .at) (l .loop .inv) (more (c .before .before)))
 
 returns : tie.Need-returns Inv-loop μ-loop
 returns c = c .before .before .loop .inv .0
@@ -97,12 +97,12 @@ quick-turns-spec =
     (tie.spec
     Inv-loop
     μ-loop
-    shared-slice-read-begin
-    shared-slice-read-begin-2
-    begin-requires
-    begin-requires-2
-    begin-requires-3
-    begin-requires-4
+    shared-slice-read-fresh
+    shared-slice-read-fresh-2
+    fresh-requires
+    fresh-requires-2
+    fresh-requires-3
+    fresh-requires-4
     shared-slice-read-t17
     sub-rest
     part-rest-start

@@ -1,58 +1,22 @@
 //! Wrong stand-ins: the second program with one thing changed.
 
-use books::implementation::Implementation;
-use books::pair::Reply;
 use books::run::{run, Failure};
-use books::tally::BOOKS_FOR_ALL;
-use reference::calls::{perform, Answer, Call};
+use books::summary::BOOKS_FOR_ALL;
+use reference::calls::{perform, Answer, Call, Reply};
 use reference::shape::Shape;
 use reference::soundness::{block_faults, sound_head, Fault};
 use reference::words::{decode_block, decode_head, RawHistogram};
 
-/// All four calls by one function.
-pub struct StandIn<F>(pub F);
-
-impl<F: Fn(&mut [u32], Call) -> Reply> Implementation for StandIn<F> {
-    fn make(&self, book: &mut [u32], [k, n, m, g]: [u32; 4]) -> Result<(), u32> {
-        (self.0)(book, Call::Make { k, n, m, g }).map(|_| ())
-    }
-
-    fn clock(&self, book: &mut [u32], clock: u32) -> Result<(), u32> {
-        (self.0)(book, Call::Clock { clock }).map(|_| ())
-    }
-
-    fn delivery(&self, book: &mut [u32], grade: u32, stamp: u32, volume: u32) -> Result<(), u32> {
-        let call = Call::Delivery {
-            grade,
-            stamp,
-            volume,
-        };
-        (self.0)(book, call).map(|_| ())
-    }
-
-    fn query(&self, book: &[u32], grade: u32, window: u32) -> Result<u64, u32> {
-        match (self.0)(&mut book.to_vec(), Call::Query { grade, window })? {
-            Answer::Sum(sum) => Ok(sum),
-            Answer::Done => Ok(0),
-        }
-    }
-
-    // A stand-in may write where it should only read.
-    fn perform(&self, book: &mut [u32], call: Call) -> Reply {
-        (self.0)(book, call)
-    }
-}
-
 /// The first difference that a usual run finds, if any.
 pub fn difference(stand_in: impl Fn(&mut [u32], Call) -> Reply) -> Option<Box<Failure>> {
-    run(&StandIn(stand_in), 1, 0..24_000).err()
+    run(stand_in, 1, 0..24_000).err()
 }
 
 /// A stand-in with nothing changed differs in nothing, so what others differ in is their change.
 pub fn assert_equal(stand_in: impl Fn(&mut [u32], Call) -> Reply) {
-    let tally = run(&StandIn(stand_in), 2, 0..BOOKS_FOR_ALL).expect("no difference");
-    assert_eq!(tally.books(), BOOKS_FOR_ALL);
-    assert!(tally.missing().is_empty());
+    let summary = run(stand_in, 2, 0..BOOKS_FOR_ALL).expect("no difference");
+    assert_eq!(summary.books(), BOOKS_FOR_ALL);
+    assert_eq!(summary.faults(), Vec::<String>::new());
 }
 
 /// The second program, but blocks pass whose faults are all forgiven.

@@ -1,4 +1,4 @@
--- The three words are tested in order, and the tests are those of the definition.
+-- The three words are tested in order, as in the definition.
 use borrow.Author.Needs.{needs}
 use borrow.Author.Tests.{eq-eqb, ne-eqb}
 use Rattle.book.proofs.head.is_blank.Statement.{statement}

@@ -1,15 +1,15 @@
--- The constructor tells whether the shape is within its limits; the rest is `with_shape`.
+-- The constructor says whether the shape is within its limits; the rest is `with_shape`.
 use native.Mathlib.Omega.{arith}
 use borrow.Author.Needs.{needs}
 use mathlib.Core.Path.{sym, ap, _∙_}
 use Rattle.shape.specs.Limits.{replyOf}
-use Rattle.book.specs.Head.{opened-short, opened-unsound, head-outside}
+use Rattle.book.specs.Head.{told-judgement, opened-short, opened-unsound, head-outside}
 use Rattle.shape.specs.LimitsLaws.{checked-within, checked-outside}
 use Rattle.book.proofs.head.open.Statement.{statement}
 use Rattle.book.proofs.head.open.Tie as tie
 
 returns : tie.Need-returns
-returns c = opened-short (c .before .before .args .book .now) (omega (arith, c .if1 .taken))
+returns c = told-judgement _ _ _ (opened-short (c .before .before .args .book .now) (omega (arith, c .if1 .taken)))
 
 shared-slice-read-new : tie.Need-shared-slice-read-new
 shared-slice-read-new c = search needs
@@ -43,7 +43,9 @@ returns-2 : tie.Need-returns-2
 returns-2 c = search needs
 
 returns-3 : tie.Need-returns-3
-returns-3 c = opened-unsound _ (c .before .before .before .before .before .before .before .if1 .left) (head-outside _ (checked-outside _ _ _ _ (ap replyOf (sym (c .enum-told .given .1)) ∙ c .before .before .new .ensures)))
+returns-3 c = told-judgement _ _ _
+    (opened-unsound _ (c .before .before .before .before .before .before .before .if1 .left)
+    (head-outside _ (checked-outside _ _ _ _ (ap replyOf (sym (c .enum-told .given .1)) ∙ c .before .before .new .ensures))))
 
 pub open-spec : {M : Type 1} → statement M
 open-spec =

@@ -1,4 +1,4 @@
--- What is left of the test at each grade, with what was seen, is the whole test.
+-- Invariant: the tests made so far and those that are left at each grade are the whole test.
 use borrow.Author.Needs.{needs}
 use borrow.Author.Tests.{not-true, not-false}
 use mathlib.Core.Bool.{Bool}
@@ -8,7 +8,7 @@ use Prim.Native.Nat.{ℕ, _-_}
 use Rattle.shape.specs.declared.Shape.{Shape}
 use Rattle.model.specs.Words.{blockPart}
 use Rattle.model.specs.Sound.{allFrom, soundBlock}
-use Rattle.laws.specs.Loops.{allLeft, allLeft-start, allLeft-step, allLeft-end}
+use Rattle.laws.specs.AllFrom.{allLeft, allLeft-start, allLeft-step, allLeft-end}
 use Rattle.book.proofs.part.all_sound.Statement.{statement}
 use Rattle.book.proofs.part.all_sound.Tie as tie
 

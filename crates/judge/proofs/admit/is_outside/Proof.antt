@@ -1,4 +1,4 @@
--- Either limit is enough.
+-- Breaking either limit is enough.
 use borrow.Author.Tests.{eq-eqb, ne-eqb}
 use Rattle.judge.proofs.admit.is_outside.Statement.{statement}
 use Rattle.judge.proofs.admit.is_outside.Tie as tie

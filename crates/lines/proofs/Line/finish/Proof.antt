@@ -1,4 +1,4 @@
--- Within a number `call` answers, and every other state is unread.
+-- Within a number `call` answers; in every other state the line is unread.
 use mathlib.Core.Path.{_∙_}
 use Rattle.grammar.specs.Grammar.{readingOf}
 use Rattle.lines.specs.Bytes.{finished}

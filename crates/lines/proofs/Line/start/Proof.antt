@@ -1,4 +1,4 @@
--- The state of a line before its first byte is the definition's own.
+-- The definition has the same state for a line before its first byte.
 use mathlib.Core.Path.{refl}
 use Rattle.lines.specs.Bytes.{started}
 use Rattle.lines.proofs.Line.start.Statement.{statement}

@@ -1,4 +1,4 @@
--- Each test is one factor of `within`: the first that fails makes it false, and after the last it is true.
+-- Each test is one conjunct of `within`: the first that fails makes it false, and after the last it is true.
 use mathlib.Core.Bool.{true}
 use mathlib.Core.Path.{_≡_, sym, _∙_}
 use native.Mathlib.Omega.{arith}
@@ -18,7 +18,7 @@ n-in c = sym (c .before .is-between2 .ensures) ∙ not-false _ (c .if2 .left)
 m-in : (c : tie.Else3) → between 1 (c .before .before .before .before .before .before .args .m) 24 ≡ true
 m-in c = sym (c .before .is-between3 .ensures) ∙ not-false _ (c .if3 .left)
 
--- past the first three tests, the last decides
+-- after the first three tests the last decides
 last-decides : (c : tie.After-is-between4) →
     let a = c .before .before .before .before .before .before .before .args in
     within (a .k) (a .n) (a .m) (a .g) ≡ c .is-between4 .result

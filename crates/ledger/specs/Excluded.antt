@@ -1,0 +1,79 @@
+-- What the claim (demand 3) alone excludes: a book that answers every question with one number, and a book whose deliveries store nothing.
+-- If the claim is made of such a book, a list of calls refutes it. Rests on the definitions alone.
+use mathlib.Core.Path.{_≡_, refl}
+use mathlib.Core.List.{List, [], _∷_}
+use Prim.Native.Nat.{ℕ, _+_, _*_, _≤_}
+use native.Mathlib.Omega.{arith}
+use lib.ListN.{length, replicate}
+use Rattle.shape.specs.Limits.{within, shaped}
+use Rattle.shape.specs.Layout.{bookWords, blockWords, blockStart, levelStart}
+use Rattle.model.specs.declared.Call.{Call}
+use Rattle.model.specs.declared.Call.the-variants.{Make, Clock, Delivery, Query}
+use Rattle.model.specs.Level.{unit, insert}
+use Rattle.model.specs.Block.{emptyHalf, deliverHalf, deliver, advance, answer}
+use Rattle.model.specs.Words.{decodeLevel, decodeHalf, decodeBlock, encodeLevel, encodeBlock}
+use Rattle.model.specs.Sound.{soundHead, soundLevel, soundHalf, soundBlock}
+use Rattle.model.specs.Calls.{Outcome, outcomeOf, refusals, bookView, made, clocked, delivered, perform}
+use Rattle.model.specs.Ledger.{Ledger, ledgerOf, ledgerView, enter}
+use Rattle.model.specs.Claim.{Turn, run, Kept, Claim}
+
+-- a book is a way to perform calls
+abbrev pub Book : Type 0
+Book = List ℕ → Call → Outcome (List ℕ)
+
+-- a run of such a book, and the claim about it
+unfoldable pub runOf : Book → List ℕ → Ledger → List Call → List Turn
+runOf book ws l [] = []
+runOf book ws l (call ∷ calls) =
+    let done = book ws call in
+    let noted = enter (length ws) l call in
+    record { call = call; ledger = l; book = done .reply; exact = noted .reply } ∷ runOf book (done .left) (noted .left) calls
+
+abbrev pub ClaimOf : Book → Type 0
+ClaimOf book = (before : List ℕ) (k n m g : ℕ) → book before (Make k n m g) .reply .number ≡ 0 → (calls : List Call)
+    → Kept (runOf book (book before (Make k n m g) .left) (ledgerOf (shaped k n m g) 0 []) calls)
+
+-- for the true book it is the claim itself
+run-same : (ws : List ℕ) (l : Ledger) (calls : List Call) → runOf perform ws l calls ≡ run ws l calls
+unfolding runOf run
+run-same ws l [] = refl
+run-same ws l (call ∷ calls) = rw (run-same (perform ws call .left) (enter (length ws) l call .left) calls)
+
+pub claim-same : Claim → ClaimOf perform
+unfolding Claim
+claim-same claim before k n m g h calls = rw (run-same (perform before (Make k n m g) .left) (ledgerOf (shaped k n m g) 0 []) calls) (claim before k n m g h calls)
+
+-- ---- a constant sum
+
+abbrev constant : ℕ → List ℕ → List ℕ
+constant c [] = []
+constant c (sum ∷ more) = c ∷ []
+
+abbrev constantSum : ℕ → Book
+constantSum c ws call =
+    let done = perform ws call in
+    outcomeOf (record { number = done .reply .number; values = constant c (done .reply .values) }) (done .left)
+
+-- without deliveries the sum is 0, and after one decilitre 0 is wrong
+pub constant-excluded : (c : ℕ) → ClaimOf (constantSum c) → ⊥
+unfolding runOf perform refusals bookView made clocked delivered soundHead soundBlock soundHalf soundLevel within encodeBlock encodeLevel decodeBlock decodeHalf decodeLevel emptyHalf deliver deliverHalf advance answer unit insert blockWords bookWords blockStart levelStart enter ledgerView
+constant-excluded c claim =
+    let kept = claim (replicate (bookWords (shaped 2 10 2 1)) 0) 2 10 2 1 refl (Query 0 4 ∷ Delivery 0 0 1 ∷ Query 0 4 ∷ []) in
+    let none : c * 7 ≤ 0 = kept .bound .0 refl (omega arith) .above in
+    let one : 1 * 7 ≤ c * 7 + 2 * 3 * 1 = kept .bound .1 .1 .0 refl (omega arith) .below in
+    omega arith
+
+-- ---- a delivery that stores nothing
+
+abbrev storesNothing : Book
+storesNothing ws (Make k n m g) = perform ws (Make k n m g)
+storesNothing ws (Clock to) = perform ws (Clock to)
+storesNothing ws (Delivery grade stamp volume) = outcomeOf (perform ws (Delivery grade stamp volume) .reply) ws
+storesNothing ws (Query grade window) = perform ws (Query grade window)
+
+pub nothing-excluded : ClaimOf storesNothing → ⊥
+unfolding runOf perform refusals bookView made clocked delivered soundHead soundBlock soundHalf soundLevel within encodeBlock encodeLevel decodeBlock decodeHalf decodeLevel emptyHalf deliver deliverHalf advance answer unit insert blockWords bookWords blockStart levelStart enter ledgerView
+nothing-excluded claim =
+    let kept = claim (replicate (bookWords (shaped 2 10 2 1)) 0) 2 10 2 1 refl (Delivery 0 0 1 ∷ Query 0 4 ∷ []) in
+    let one : 1 * 7 ≤ 0 * 7 + 2 * 3 * 1 = kept .bound .1 .0 refl (omega arith) .below in
+    omega arith

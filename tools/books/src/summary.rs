@@ -1,0 +1,79 @@
+//! How many books and answers of each kind a run saw.
+
+use std::fmt::{self, Display, Formatter};
+
+use draw::book::Kind;
+use draw::damage::KINDS;
+use draw::tally::Tally;
+use reference::calls::Reply;
+use reference::{protocol, refusal};
+
+/// A run of so many books must show every kind of book, of damage and of answer.
+pub const BOOKS_FOR_ALL: u64 = 2_000;
+
+/// Counts of a run.
+#[derive(Clone, Debug, PartialEq, Eq)]
+pub struct Summary {
+    books: Tally,
+    damage: Tally,
+    answers: Tally,
+}
+
+impl Summary {
+    /// Nothing counted yet.
+    pub fn new() -> Summary {
+        Summary {
+            books: Tally::new(["grown", "built", "damaged"], BOOKS_FOR_ALL),
+            // Half of the books are damaged, and each gets several calls.
+            damage: Tally::new(KINDS.map(|(name, _)| name), BOOKS_FOR_ALL / 2),
+            answers: Tally::of_answers(refusal::ALL, &[], 4 * BOOKS_FOR_ALL),
+        }
+    }
+
+    /// Counts a book.
+    pub fn add_book(&mut self, kind: Kind) {
+        match kind {
+            Kind::Grown => self.books.add("grown"),
+            Kind::Built => self.books.add("built"),
+            Kind::Damaged(name) => {
+                self.books.add("damaged");
+                self.damage.add(name);
+            }
+        }
+    }
+
+    /// Counts an answer on which both sides agree.
+    pub fn add_reply(&mut self, reply: Reply) {
+        self.answers.add_answer(&protocol::answer(reply));
+    }
+
+    /// All books.
+    pub fn books(&self) -> u64 {
+        self.books.total()
+    }
+
+    /// All calls.
+    pub fn calls(&self) -> u64 {
+        self.answers.total()
+    }
+
+    /// What never occurred in a run that is long enough for it.
+    pub fn faults(&self) -> Vec<String> {
+        let tallies = [&self.books, &self.damage, &self.answers];
+        tallies.into_iter().flat_map(Tally::faults).collect()
+    }
+}
+
+impl Default for Summary {
+    fn default() -> Summary {
+        Summary::new()
+    }
+}
+
+impl Display for Summary {
+    fn fmt(&self, f: &mut Formatter<'_>) -> fmt::Result {
+        let (books, calls) = (self.books(), self.calls());
+        write!(f, "{books} books ({}), {calls} calls, ", self.books)?;
+        write!(f, "all equal; {}", self.answers)
+    }
+}

@@ -1,0 +1,374 @@
+//! Random calls around a book: mostly accepted ones, many at an edge, and every kind of refused one.
+
+use reference::calls::Call;
+use reference::shape::Shape;
+
+use crate::pace::Pace;
+use crate::random::Random;
+use crate::shapes::{quick_volume, Makes, Numbers};
+use crate::view::View;
+
+/// Volumes above what the second program takes in little time are cut, some only far above it.
+const PATIENCE: u64 = 20;
+/// Volumes up to here fill an interval exactly, however long that takes.
+const QUICK_FILL: u64 = 4_096;
+const VOLUME_MAX: u64 = Shape::VOLUME_MAX as u64;
+
+/// A source of calls, for one book after another.
+pub struct Source {
+    /// The generator.
+    pub random: Random,
+    /// What is called how often.
+    pub pace: Pace,
+    /// The shapes for which a make is accepted.
+    pub makes: Makes,
+}
+
+impl Source {
+    /// A source of any pace; equal seeds give equal calls.
+    pub fn new(seed: u64, makes: Makes) -> Source {
+        let mut random = Random::new(seed);
+        let pace = Pace::draw(&mut random);
+        Source {
+            random,
+            pace,
+            makes,
+        }
+    }
+
+    /// Draws calls on a book.
+    pub fn caller<'a>(&'a mut self, view: &'a dyn View) -> Caller<'a> {
+        Caller {
+            random: &mut self.random,
+            pace: self.pace,
+            makes: self.makes,
+            view,
+        }
+    }
+
+    /// Any call on a book.
+    pub fn call(&mut self, view: &dyn View) -> Call {
+        self.caller(view).call()
+    }
+}
+
+/// Draws the calls on one book.
+pub struct Caller<'a> {
+    /// The source's generator.
+    pub random: &'a mut Random,
+    /// The source's pace.
+    pub pace: Pace,
+    /// The source's shapes.
+    pub makes: Makes,
+    /// The book.
+    pub view: &'a dyn View,
+}
+
+impl Caller<'_> {
+    /// Any call.
+    pub fn call(&mut self) -> Call {
+        // Near the limit the clock soon stands still, so that a make comes sooner.
+        let near_limit = self.now() > Shape::CLOCK_MAX - self.ticks();
+        let span = self.pace.span / if near_limit { 8 } else { 1 };
+        if self.random.one_in(span.max(1)) {
+            return self.make();
+        }
+        let questions = 4 + self.pace.questions;
+        match self.random.below(100) {
+            0..=1 => self.refused_make(),
+            2..=3 => self.refused(),
+            _ if self.now() == 0 && !self.random.one_in(3) => self.first_clock(),
+            draw if draw < questions => self.question(),
+            draw if draw < questions + self.pace.clocks => self.clock(),
+            _ => self.delivery(),
+        }
+    }
+
+    /// A make that is accepted where it is lent as many words as it needs.
+    pub fn make(&mut self) -> Call {
+        call_of(self.makes.accepted(self.random, self.shape()))
+    }
+
+    /// A make that is refused.
+    pub fn refused_make(&mut self) -> Call {
+        call_of(self.makes.refused(self.random, self.shape()))
+    }
+
+    fn shape(&self) -> Shape {
+        self.view.shape()
+    }
+
+    /// At most 2^20.
+    fn ticks(&self) -> u32 {
+        self.shape().interval_ticks() as u32
+    }
+
+    /// Any number where a head is damaged, so that what is computed from it wraps.
+    fn now(&self) -> u32 {
+        self.view.clock()
+    }
+
+    fn start_of_interval(&self) -> u32 {
+        self.now() - self.now() % self.ticks()
+    }
+
+    fn next_interval(&self) -> u32 {
+        self.start_of_interval().wrapping_add(self.ticks())
+    }
+
+    /// The oldest stamp that is not late.
+    fn oldest(&self) -> u32 {
+        self.now().saturating_sub(self.ticks())
+    }
+
+    /// Whether the next number is at an edge or beyond it.
+    fn is_edge(&mut self) -> bool {
+        self.random.one_in(self.pace.edges)
+    }
+
+    /// Steps on, leaps into another interval, or takes an edge.
+    pub fn clock(&mut self) -> Call {
+        // Clocks are few, so more of them are at an edge.
+        let clock = if self.random.below(self.pace.edges.max(6)) < 3 {
+            self.edge_clock()
+        } else if self.random.one_in(4 * self.pace.leap) {
+            self.leap()
+        } else {
+            let largest = u64::from(self.ticks()) / self.pace.step_divisor + 1;
+            let step = 1 + self.random.below(largest) as u32;
+            self.now().wrapping_add(step)
+        };
+        Call::Clock { clock }
+    }
+
+    /// From the start of a book into its first intervals, so that stamps have room.
+    pub fn first_clock(&mut self) -> Call {
+        Call::Clock {
+            clock: self.random.between(1, 3 * self.ticks()),
+        }
+    }
+
+    /// Stays, goes back, meets the ends of intervals, or comes near the limit or above it.
+    fn edge_clock(&mut self) -> u32 {
+        const MAX: u32 = Shape::CLOCK_MAX;
+        let (now, next, ticks) = (self.now(), self.next_interval(), self.ticks());
+        let start = self.start_of_interval();
+        let random = &mut *self.random;
+        let goes_ahead = random.one_in(self.pace.leap);
+        match random.below(9) {
+            0 if goes_ahead => {
+                let near = MAX - random.between(0, 2 * ticks);
+                let any = random.between(now, now.max(MAX));
+                random.pick(&[MAX, near.max(now), any])
+            }
+            1 if goes_ahead => random.pick(&[now.wrapping_add(1), next.wrapping_sub(1), next]),
+            0..=3 => now,
+            4..=5 => {
+                let back = random.between(1, ticks);
+                let back = random.pick(&[1, 1, back, ticks, now - start + 1, now]);
+                now.saturating_sub(back)
+            }
+            6..=7 => {
+                let above = random.between(MAX + 1, u32::MAX);
+                random.pick(&[MAX + 1, above, 1 << 31, u32::MAX])
+            }
+            _ => random.between(0, now),
+        }
+    }
+
+    /// Into the next interval, or past one or more.
+    fn leap(&mut self) -> u32 {
+        let (next, ticks) = (self.next_interval(), self.ticks());
+        let random = &mut *self.random;
+        let inside = random.between(0, ticks - 1);
+        let offset = random.pick(&[0, ticks - 1, inside, inside]);
+        let skipped = match random.below(20) {
+            0..=10 => 0,
+            11..=15 => 1,
+            _ => random.between(2, 9),
+        };
+        next.wrapping_add(skipped * ticks).wrapping_add(offset)
+    }
+
+    /// Mostly the favourite grade. Edges are rare, because 3 hides most other refusals.
+    fn grade(&mut self) -> u32 {
+        let g = self.shape().g();
+        // Times a block's length this is 0 modulo 2^32.
+        let round = 1 << (32 - self.shape().block_length().trailing_zeros());
+        let edges = [g, g, g + 1, 256, 65_536, round, g - 1 + round, u32::MAX];
+        match self.random.below(4 * self.pace.edges) {
+            0 => self.random.pick(&edges),
+            draw if draw % 4 == 0 => self.random.below(g.into()) as u32,
+            _ => self.pace.favourite % g,
+        }
+    }
+
+    /// A delivery, or a clock where the interval is full and would mostly refuse.
+    pub fn delivery(&mut self) -> Call {
+        let (grade, stamp) = (self.grade(), self.stamp());
+        let room = self.view.room(grade, stamp);
+        if room == 0 && grade < self.shape().g() && !self.random.one_in(4) {
+            let clock = self.leap();
+            return Call::Clock { clock };
+        }
+        Call::Delivery {
+            grade,
+            stamp,
+            volume: self.volume(room),
+        }
+    }
+
+    /// Anywhere that is not late, often recent or where something stands already.
+    fn stamp(&mut self) -> u32 {
+        if self.is_edge() {
+            return self.edge_stamp();
+        }
+        let (now, oldest) = (self.now(), self.oldest());
+        let (near, any) = (self.near_landmark(), self.random.between(oldest, now));
+        let recent = oldest.max(now.saturating_sub(self.ticks() / 8 + 1));
+        match self.random.below(8) {
+            0..=1 if (oldest..=now).contains(&near) => near,
+            2..=3 => self.random.between(recent, now),
+            _ => any,
+        }
+    }
+
+    /// The stamp of what stands in the book or a tick beside it; the clock where nothing does.
+    fn near_landmark(&mut self) -> u32 {
+        let landmark = self.view.landmark(self.random).unwrap_or(self.now());
+        let side = self.random.pick(&[0, 0, 0, 1, u32::MAX]);
+        landmark.wrapping_add(side)
+    }
+
+    /// Next to the clock, to the oldest stamp, to the ends of the intervals or of the numbers.
+    fn edge_stamp(&mut self) -> u32 {
+        let (now, oldest, ticks) = (self.now(), self.oldest(), self.ticks());
+        let (start, next) = (self.start_of_interval(), self.next_interval());
+        let before = start.saturating_sub(ticks);
+        let random = &mut *self.random;
+        let (few, any) = (random.between(1, 3), random.word());
+        match random.below(8) {
+            0 => now.wrapping_add(few),
+            1 => oldest.saturating_sub(few),
+            2..=3 => random.pick(&[now, oldest, oldest.wrapping_add(1)]),
+            4..=5 => random.pick(&[start, start.saturating_sub(1), before, before.max(1) - 1]),
+            6 => random.pick(&[
+                u32::MAX,
+                u32::MAX - ticks,
+                u32::MAX - ticks + 1,
+                1 << 31,
+                next,
+            ]),
+            _ => random.pick(&[0, ticks, ticks - 1, any]),
+        }
+    }
+
+    /// Mostly small, so that an interval takes several deliveries and its levels fill one by one.
+    fn volume(&mut self, room: u64) -> u32 {
+        if self.floods() {
+            return room.clamp(1, VOLUME_MAX) as u32;
+        }
+        let drawn = if self.is_edge() {
+            self.edge_volume(room)
+        } else {
+            let most = self.pace.volume.min(self.shape().capacity() / 8).max(1);
+            (1 + self.random.below(most)).min(room).max(1)
+        };
+        // Refused volumes cost nothing, accepted ones by the decilitre.
+        let most = if drawn > room || drawn > VOLUME_MAX {
+            u32::MAX.into()
+        } else if drawn == room && room <= QUICK_FILL {
+            room
+        } else {
+            quick_volume(self.shape()) * self.random.pick(&[1, PATIENCE])
+        };
+        drawn.min(most) as u32
+    }
+
+    /// None, the most, as much as there is room for, one more, or about a power of two, where
+    /// weights halve.
+    fn edge_volume(&mut self, room: u64) -> u64 {
+        let capacity = self.shape().capacity();
+        let random = &mut *self.random;
+        match random.below(8) {
+            0 => 0,
+            1 => random.pick(&[VOLUME_MAX + 1, VOLUME_MAX + 2, 1 << 31, u32::MAX.into()]),
+            2 => VOLUME_MAX,
+            3 => room,
+            4 => room + 1,
+            5 => random.below(capacity + 1),
+            _ => (1 << random.between(1, 14)) + random.below(3) - 1,
+        }
+    }
+
+    /// Whether this volume should be as large as can be; only where a few such fill an interval.
+    fn floods(&mut self) -> bool {
+        let rarity = match self.shape().m() {
+            16 => 16,
+            17..=18 => 3,
+            _ => return false,
+        };
+        let quick = quick_volume(self.shape()) * PATIENCE >= VOLUME_MAX;
+        self.pace.flood && quick && self.random.one_in(rarity)
+    }
+
+    /// A question.
+    pub fn question(&mut self) -> Call {
+        Call::Query {
+            grade: self.grade(),
+            window: self.window(),
+        }
+    }
+
+    /// Any window, often one that opens where something stands or a tick beside it.
+    fn window(&mut self) -> u32 {
+        let (now, ticks) = (self.now(), self.ticks());
+        if self.is_edge() || self.is_edge() {
+            let inside = now - self.start_of_interval();
+            let random = &mut *self.random;
+            return match random.below(6) {
+                0 => random.between(0, 3),
+                1 => random.pick(&[ticks, ticks, ticks - 1]),
+                2 => random.pick(&[inside, inside + 1, inside.max(1) - 1]),
+                3 => ticks + 1,
+                4 => random.pick(&[2 * ticks, 65_536, 1 << 31, u32::MAX, u32::MAX - ticks]),
+                _ => now,
+            };
+        }
+        let (near, any) = (self.near_landmark(), self.random.between(0, ticks));
+        let opens_near = now.wrapping_sub(near);
+        if self.random.one_in(3) && opens_near <= ticks {
+            opens_near
+        } else {
+            any
+        }
+    }
+
+    /// A call with several reasons to be refused, of which only the first one counts.
+    pub fn refused(&mut self) -> Call {
+        let (now, ticks, shape) = (self.now(), self.ticks(), self.shape());
+        let late = self.oldest().saturating_sub(1);
+        let above = shape.capacity() as u32 + 1;
+        let random = &mut *self.random;
+        let grade = random.pick(&[0, 0, shape.g(), u32::MAX]);
+        match random.below(6) {
+            0 => Call::Clock {
+                clock: random.pick(&[0, Shape::CLOCK_MAX + 1, u32::MAX]),
+            },
+            1..=2 => Call::Query {
+                grade,
+                window: random.pick(&[0, ticks, ticks + 1, u32::MAX]),
+            },
+            _ => Call::Delivery {
+                grade,
+                stamp: random.pick(&[now, now.wrapping_add(1), late, u32::MAX]),
+                volume: random.pick(&[0, 1, Shape::VOLUME_MAX + 1, above, u32::MAX]),
+            },
+        }
+    }
+}
+
+/// The make of these numbers.
+pub fn call_of([k, n, m, g]: Numbers) -> Call {
+    Call::Make { k, n, m, g }
+}

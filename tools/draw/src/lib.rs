@@ -1,0 +1,17 @@
+//! Random shapes, calls and books for everything that is compared with the second program. All
+//! draws come from a seed, so that a run can be repeated.
+
+#![forbid(unsafe_code)]
+#![warn(missing_docs)]
+
+pub mod book;
+pub mod calls;
+pub mod damage;
+pub mod pace;
+pub mod places;
+pub mod random;
+pub mod shapes;
+pub mod sound;
+pub mod tally;
+pub mod view;
+pub mod wrapped;

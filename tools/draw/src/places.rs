@@ -1,0 +1,90 @@
+//! Where the words of a book stand that damage and calls aim at.
+
+use std::ops::Range;
+
+use reference::layout;
+use reference::shape::Shape;
+
+use crate::random::Random;
+
+/// One level of one half of one grade.
+#[derive(Clone, Copy, Debug)]
+pub struct Place {
+    /// The grade.
+    pub grade: u32,
+    /// 0 for the even half, 1 for the odd.
+    pub parity: usize,
+    /// The level's index.
+    pub index: usize,
+    /// The first word of the half's total.
+    pub total: usize,
+    /// The first word of the level.
+    pub start: usize,
+    slots: usize,
+}
+
+impl Place {
+    /// The level of these numbers.
+    pub fn new(shape: Shape, grade: u32, parity: usize, index: usize) -> Place {
+        let block = shape.block(grade).start;
+        Place {
+            grade,
+            parity,
+            index,
+            total: block + layout::total(parity).start,
+            start: block + shape.level(parity, index).start,
+            slots: shape.n() as usize,
+        }
+    }
+
+    /// Any level; level 0 and the finer ones, which have most buckets, more often.
+    pub fn draw(random: &mut Random, shape: Shape) -> Place {
+        let levels = shape.levels() as u64;
+        let index = match random.below(4) {
+            0 => 0,
+            1 => random.below(levels.min(4)),
+            _ => random.below(levels),
+        };
+        let grade = random.below(shape.g().into()) as u32;
+        Place::new(shape, grade, random.below(2) as usize, index as usize)
+    }
+
+    /// The word of the bucket count.
+    pub fn count(self) -> usize {
+        self.start + layout::COUNT
+    }
+
+    /// The word of F.
+    pub fn first(self) -> usize {
+        self.start + layout::FIRST
+    }
+
+    /// The first word of a slot.
+    pub fn slot(self, slot: usize) -> usize {
+        self.start + layout::LEVEL_HEAD_WORDS + layout::SLOT_WORDS * slot
+    }
+
+    /// How many slots the count calls buckets.
+    pub fn used(self, words: &[u32]) -> usize {
+        self.slots.min(words[self.count()] as usize)
+    }
+
+    /// A slot with a bucket, where there is one, else any.
+    pub fn any_slot(self, random: &mut Random, words: &[u32]) -> usize {
+        let used = self.used(words);
+        let among = if used == 0 { self.slots } else { used };
+        self.slot(random.below(among as u64) as usize)
+    }
+
+    /// A bucket with another one after it.
+    pub fn neighbours(self, random: &mut Random, words: &[u32]) -> Option<(usize, usize)> {
+        let pairs = self.used(words).checked_sub(1).filter(|pairs| *pairs > 0)?;
+        let low = random.below(pairs as u64) as usize;
+        Some((self.slot(low), self.slot(low + 1)))
+    }
+
+    /// All words of the level.
+    pub fn words(self) -> Range<usize> {
+        self.start..self.slot(self.slots)
+    }
+}

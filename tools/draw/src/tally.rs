@@ -1,0 +1,103 @@
+//! How often each kind of thing occurred in a run, and which kinds a long run must show.
+
+use std::collections::BTreeMap;
+use std::fmt::{self, Display, Formatter};
+use std::process::ExitCode;
+
+use reference::calls::Answer;
+use reference::protocol;
+
+/// Counts by kind.
+#[derive(Clone, Debug, PartialEq, Eq)]
+pub struct Tally {
+    expected: Vec<String>,
+    enough: u64,
+    counts: BTreeMap<String, u64>,
+}
+
+impl Tally {
+    /// A run that has counted `enough` must have shown each of these kinds; others are faults at
+    /// once.
+    pub fn new<K: ToString>(expected: impl IntoIterator<Item = K>, enough: u64) -> Tally {
+        Tally {
+            expected: expected.into_iter().map(|kind| kind.to_string()).collect(),
+            enough,
+            counts: BTreeMap::new(),
+        }
+    }
+
+    /// For answers: accepted ones, these refusals, and these others.
+    pub fn of_answers(refusals: impl Iterator<Item = u32>, others: &[&str], enough: u64) -> Tally {
+        let accepted = [Answer::Done, Answer::Sum(0)].map(|answer| protocol::answer(Ok(answer)));
+        let refused = refusals.map(|number| protocol::answer(Err(number)));
+        let others = others.iter().map(|other| other.to_string());
+        let kinds = accepted.into_iter().chain(others).chain(refused);
+        Tally::new(kinds.map(|answer| answer_kind(&answer)), enough)
+    }
+
+    /// Counts one thing of a kind.
+    pub fn add(&mut self, kind: &str) {
+        *self.counts.entry(kind.to_string()).or_default() += 1;
+    }
+
+    /// Counts an answer as the bench program prints it.
+    pub fn add_answer(&mut self, answer: &str) {
+        self.add(&answer_kind(answer));
+    }
+
+    /// How often a kind occurred.
+    pub fn count(&self, kind: &str) -> u64 {
+        self.counts.get(kind).copied().unwrap_or(0)
+    }
+
+    /// All that was counted.
+    pub fn total(&self) -> u64 {
+        self.counts.values().sum()
+    }
+
+    /// What is wrong: kinds that cannot occur, and in a run that is long enough every expected
+    /// kind that never occurred.
+    pub fn faults(&self) -> Vec<String> {
+        let unexpected = self.unexpected().map(|kind| format!("unexpected: {kind}"));
+        let mut faults: Vec<String> = unexpected.collect();
+        if self.total() >= self.enough {
+            let missing = self.expected.iter().filter(|kind| self.count(kind) == 0);
+            faults.extend(missing.map(|kind| format!("never occurred: {kind}")));
+        }
+        faults
+    }
+
+    fn unexpected(&self) -> impl Iterator<Item = &String> {
+        let kinds = self.counts.keys();
+        kinds.filter(|kind| !self.expected.contains(kind))
+    }
+}
+
+/// Expected kinds first, in their order, then the others.
+impl Display for Tally {
+    fn fmt(&self, f: &mut Formatter<'_>) -> fmt::Result {
+        let kinds = self.expected.iter().chain(self.unexpected());
+        let counts: Vec<String> = kinds.map(|k| format!("{k}: {}", self.count(k))).collect();
+        write!(f, "{}", counts.join(", "))
+    }
+}
+
+/// Tells the faults of a run; its exit status.
+pub fn verdict(faults: &[String]) -> ExitCode {
+    for fault in faults {
+        eprintln!("{fault}");
+    }
+    if faults.is_empty() {
+        ExitCode::SUCCESS
+    } else {
+        ExitCode::FAILURE
+    }
+}
+
+/// An answer without what varies within its kind.
+fn answer_kind(answer: &str) -> String {
+    match answer.strip_prefix("= ") {
+        Some(_) => "=".to_string(),
+        None => answer.to_string(),
+    }
+}

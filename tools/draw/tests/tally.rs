@@ -1,0 +1,52 @@
+//! Counts by kind, and what a long run must show.
+
+use draw::tally::Tally;
+
+const ENOUGH: u64 = 100;
+
+fn tally(answers: &[&str]) -> Tally {
+    let mut tally = Tally::of_answers(1..=3, &["unread"], ENOUGH);
+    answers.iter().for_each(|answer| tally.add_answer(answer));
+    tally
+}
+
+#[test]
+fn answers_are_counted_by_kind() {
+    let tally = tally(&["ok", "= 0", "= 4294967295", "refused 1", "refused 12"]);
+    let kinds = ["ok", "=", "refused 1", "refused 12", "unread"];
+    assert_eq!(kinds.map(|kind| tally.count(kind)), [1, 2, 1, 1, 0]);
+    assert_eq!(tally.total(), 5);
+    let shown = "ok: 1, =: 2, unread: 0, refused 1: 1, refused 2: 0, refused 3: 0, refused 12: 1";
+    assert_eq!(tally.to_string(), shown);
+}
+
+#[test]
+fn long_run_must_show_every_kind() {
+    let mut tally = tally(&["= 1", "unread", "refused 1", "refused 2", "refused 3"]);
+    while tally.total() < ENOUGH - 1 {
+        tally.add_answer("= 7");
+    }
+    assert!(tally.faults().is_empty());
+    tally.add_answer("= 7");
+    assert_eq!(tally.faults(), ["never occurred: ok"]);
+    tally.add_answer("ok");
+    assert!(tally.faults().is_empty());
+}
+
+#[test]
+fn kinds_that_cannot_occur_are_faults() {
+    for answer in ["refused 0", "refused 4", "", "OK", "=1", "ok "] {
+        let faults = tally(&["ok", answer]).faults();
+        assert_eq!(faults, [format!("unexpected: {answer}")]);
+    }
+}
+
+#[test]
+fn any_kinds_are_counted() {
+    let mut tally = Tally::new(["grown", "built"], 2);
+    tally.add("grown");
+    assert!(tally.faults().is_empty());
+    tally.add("grown");
+    assert_eq!(tally.faults(), ["never occurred: built"]);
+    assert_eq!(tally.to_string(), "grown: 2, built: 0");
+}

@@ -1,4 +1,4 @@
--- Document 01's example of the bench program, and a last line without its newline, by computation. Assumes nothing.
+-- The example of SPECIFICATION 11.5, and a last line without its newline, by computation. Assumes nothing.
 use mathlib.Core.List.{List, [], _∷_, _++_}
 use mathlib.Core.Path.{_≡_, refl}
 use Prim.Native.Nat.{ℕ}

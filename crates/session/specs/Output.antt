@@ -112,7 +112,7 @@ pub session-output : (input : List ℕ) → endInput (foldl feedByte fresh input
 unfolding fresh output
 session-output input = right input [] zeroBuffer bufferWords []
 
--- a line is answered when its newline has been read; no later byte is needed
+-- a line is answered when its newline has been read: no later byte is waited for
 pub line-output : (input : List ℕ) → foldl feedByte fresh (input ++ newline ∷ []) .out ≡ output (input ++ newline ∷ [])
 unfolding endLine
 line-output input = rw (← session-output (input ++ newline ∷ []), foldl-append feedByte fresh input (newline ∷ []))

@@ -4,6 +4,8 @@
 #![forbid(unsafe_code)]
 #![warn(missing_docs)]
 
+use order::Order;
+
 pub mod forecourt;
 pub mod observe;
 pub mod order;
@@ -11,3 +13,16 @@ pub mod picture;
 pub mod scale;
 pub mod table;
 pub mod unusual;
+
+/// The orders of the picture, each from a seed.
+pub const ORDERS: [fn(u64) -> Order; 9] = [
+    forecourt::prompt,
+    forecourt::hourly,
+    unusual::uniform,
+    unusual::reverse,
+    unusual::late,
+    unusual::inwards,
+    unusual::heavy_tick,
+    unusual::extremes,
+    unusual::aimed,
+];

@@ -8,7 +8,7 @@ use std::process::ExitCode;
 use errors::observe::{observe, Observed};
 use errors::order::Order;
 use errors::picture::svg;
-use errors::{forecourt, table, unusual};
+use errors::{table, ORDERS};
 
 const USAGE: &str = "\
 usage: errors PICTURE
@@ -35,20 +35,10 @@ fn draw([path]: [OsString; 1]) -> ExitCode {
 }
 
 fn run() -> Result<Vec<(Order, Observed)>, String> {
-    let orders = [
-        forecourt::prompt(1),
-        forecourt::hourly(2),
-        unusual::uniform(3),
-        unusual::reverse(4),
-        unusual::late(5),
-        unusual::inwards(6),
-        unusual::heavy_tick(7),
-        unusual::extremes(8),
-        unusual::aimed(9),
-    ];
     println!("{}", table::head());
     let mut all = Vec::new();
-    for order in orders {
+    for (seed, order) in (1..).zip(ORDERS) {
+        let order = order(seed);
         let observed = observe(&order)?;
         println!("{}", table::row(&order, &observed));
         let beyond = observed.observations.iter().find(|o| !o.within_bound());

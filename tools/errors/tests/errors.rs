@@ -3,7 +3,7 @@
 use draw::random::Random;
 use errors::observe::{observe, Observation, Observed, BOUND, TICKS};
 use errors::order::{windows, Kind, Order, Step};
-use errors::{forecourt, table, unusual};
+use errors::{table, unusual, ORDERS};
 
 fn observation(truth: u64, answer: u64) -> Observation {
     Observation {
@@ -53,18 +53,7 @@ fn deliveries(order: &Order) -> usize {
 
 #[test]
 fn orders_are_long_and_repeatable() {
-    let makers: [fn(u64) -> Order; 9] = [
-        forecourt::prompt,
-        forecourt::hourly,
-        unusual::uniform,
-        unusual::reverse,
-        unusual::late,
-        unusual::inwards,
-        unusual::heavy_tick,
-        unusual::extremes,
-        unusual::aimed,
-    ];
-    for make in makers {
+    for make in ORDERS {
         let order = make(1);
         assert!(deliveries(&order) > 10_000, "{}", order.name);
         assert_eq!(order.books, make(1).books);

@@ -3,7 +3,7 @@
 use errors::observe::{Observation, Observed};
 use errors::order::{Kind, Order};
 use errors::picture::svg;
-use errors::{forecourt, unusual};
+use errors::ORDERS;
 
 fn observed() -> Observed {
     let observation = |truth, answer| Observation {
@@ -157,25 +157,10 @@ fn areas(svg: &str) -> (Vec<Area>, Vec<Area>, Area) {
 
 #[test]
 fn no_label_lies_over_another_or_over_a_panel() {
-    let orders = [
-        forecourt::prompt(1),
-        forecourt::hourly(2),
-        unusual::uniform(3),
-        unusual::reverse(4),
-        unusual::late(5),
-        unusual::inwards(6),
-        unusual::heavy_tick(7),
-        unusual::extremes(8),
-        unusual::aimed(9),
-    ];
-    let count = orders.len();
-    let all: Vec<_> = orders
-        .into_iter()
-        .map(|order| (order, observed()))
-        .collect();
+    let all = ORDERS.map(|order| (order(1), observed()));
     let (labels, panels, whole) = areas(&svg(&all));
-    assert_eq!(panels.len(), count);
-    assert!(labels.len() > 17 * count, "{}", labels.len());
+    assert_eq!(panels.len(), ORDERS.len());
+    assert!(labels.len() > 17 * ORDERS.len(), "{}", labels.len());
     for (place, one) in labels.iter().enumerate() {
         let others = labels[place + 1..].iter().chain(&panels);
         for other in others {

@@ -48,7 +48,7 @@ parsedValues (letter ∷ a ∷ b ∷ c ∷ d ∷ e ∷ more) = Unread
 unfoldable pub parsedOf : Reply → Parsed  -- what a line asks for, by the grammar's reply
 parsedOf reply = parsedValues (reply .values)
 
--- what is printed for lines, one after the other: each line finds the buffer, and as much of it lent, as the line before left it
+-- SPECIFICATION 11.1: what is printed for lines, one after another; each finds the buffer and what is lent as the one before left them
 abbrev pub printed : List ℕ → ℕ → List (List ℕ) → List ℕ
 printed words lent [] = []
 printed words lent (line ∷ lines) = let after = afterLine words lent (parsedOf (grammar line)) in after .text ++ printed (after .words) (after .lent) lines

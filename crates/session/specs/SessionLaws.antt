@@ -39,7 +39,7 @@ unfolding saidText
 said-short (said.Answer a) = text-short (replyOf a)
 said-short said.Unread = unread-short
 
--- the output after the bytes that wait
+-- the output after the bytes that wait has room for a text
 pub room-behind : (out : List ℕ) (used : ℕ) → used + 32 ≤ length out → 32 ≤ length (take (length out - used) (drop used out))
 room-behind out used h = rw (length-take-le (length out - used) (drop used out) (omega (arith, length-drop used out))) (omega arith)
 

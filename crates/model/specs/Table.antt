@@ -145,6 +145,14 @@ table =
     (answers (d 4 1) (accepted [])
     ∷ answers (d 3 1) (refused 9)
     ∷ answers (d 9 1) (refused 8)
+    -- what another interval holds does not count for 12
+    ∷ answers (d 8 9) (accepted [])
+    ∷ exactly (d 8 9) (accepted [])
+    ∷ [])
+    -- a refused delivery leaves the level, and the ledger's sum, as they were
+    ∷ example (p₇ ++ d 0 9 ∷ [])
+    (levelIs 2 (levelOf 0 (bucketOf 0 2 4 ∷ bucketOf 2 2 4 ∷ []))
+    ∷ exactly (q 4) (accepted (8 ∷ []))
     ∷ [])
     ∷ []
 
@@ -167,8 +175,11 @@ table-holds = (
               (
                 (refl, tt),
                 (
-                  (refl, (refl, (refl, tt))),
-                  tt,
+                  (refl, (refl, (refl, (refl, (refl, tt))))),
+                  (
+                    (refl, (refl, tt)),
+                    tt,
+                  ),
                 ),
               ),
             ),

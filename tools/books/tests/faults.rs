@@ -1,4 +1,4 @@
-//! A usual run finds the faults that document 01 lists as "shelving faults to shut out".
+//! A usual run finds the faults that docs/SPECIFICATION.md lists in section 14.
 
 mod wrong;
 
@@ -94,7 +94,7 @@ fn the_rest_into_a_neighbour() {
 }
 
 #[test]
-fn the_first_decilitre_shelved_and_the_rest_added() {
+fn the_first_decilitre_inserted_and_the_rest_added() {
     let insert = |level: &mut Level, shape: Shape, index: usize, offset: u64, volume: u64| {
         level.insert_unit(shape, index, offset);
         if let Some(slot) = level.buckets.iter().position(|b| b.covers(offset)) {

@@ -6,7 +6,7 @@ use Prim.Native.Nat.{ℕ, zero, suc, _+_, _^_, _≤_, _<_}
 use native.Mathlib.Omega.{arith}
 use lib.Dec.{ltb, eqb}
 use lib.ListN.{length}
-use borrow.Author.Tests.{eq-eqb, ne-eqb, not-false, ltb-true, ltb-false, eqb-true}
+use borrow.Author.Tests.{eq-eqb, ne-eqb, not-false, ltb-true, ltb-false, leb-false, eqb-true}
 use Rattle.shape.specs.declared.Shape.{Shape}
 use Rattle.shape.specs.Limits.{refused, within, shaped}
 use Rattle.shape.specs.Layout.{headLen, bookWords}
@@ -112,7 +112,7 @@ pub record AcceptedDelivery (v : View) (grade stamp volume : ℕ) : Type 0 where
   pub inside : grade < v .shape .g
   pub some : 0 < volume
   pub low : stamp ≤ v .clock
-  pub high : v .clock ≤ stamp + 2 ^ v .shape .k
+  pub high : v .clock < stamp + 2 ^ v .shape .k
   pub sound : v .blockSound grade ≡ true
   pub room : v .total grade stamp + volume ≤ 2 ^ v .shape .m
 
@@ -147,7 +147,7 @@ module _ (v : View) (grade stamp volume : ℕ) where
         inside = there .2;
         some = there .3;
         low = there .4;
-        high = ltb-false (stamp + 2 ^ v .shape .k) (v .clock) (high .0);
+        high = leb-false (stamp + 2 ^ v .shape .k) (v .clock) (high .0);
         sound = not-false _ (sound .0);
         room = ltb-false (2 ^ v .shape .m) (v .total grade stamp + volume) (room .0);
       }

@@ -4,8 +4,9 @@ use mathlib.Core.Path.{_≡_, refl, ap, ap₂}
 use mathlib.Core.List.{List}
 use Prim.Native.Nat.{ℕ, _+_, _^_, _≤_, _<_}
 use lib.Dec.{ltb, eqb}
+use native.Mathlib.Omega.{arith}
 use lib.ListN.{length}
-use borrow.Author.Tests.{not-false, ltb-true, ltb-false}
+use borrow.Author.Tests.{not-false, ltb-true, ltb-false, leb-false}
 use Rattle.shape.specs.declared.Shape.{Shape}
 use Rattle.shape.specs.Layout.{headLen, bookWords}
 use Rattle.model.specs.declared.Call.{Call}
@@ -43,12 +44,12 @@ module _ (l : Ledger) (good : Good l) where
   exactView = ledgerView (length ws) l
 
   -- the total of the half that serves a stamp, if the stamp is neither ahead nor late
-  total-agrees : (grade stamp : ℕ) → grade < s .g → stamp ≤ clock → clock ≤ stamp + 2 ^ s .k
+  total-agrees : (grade stamp : ℕ) → grade < s .g → stamp ≤ clock → clock < stamp + 2 ^ s .k
       → halfOf (interval s stamp) (decodeBlock s (blockPart s grade ws)) .total ≡ volumeOf (ofInterval s (ofGrade grade) (interval s stamp)) es
   unfolding halfFed
   total-agrees grade stamp h low high =
       rw (words-block l good grade h)
-      (ap (λ (x : Half). x .total) (halfOf-served s clock es (ofGrade grade) (interval s stamp) (interval-mono s low) (interval-near s stamp clock high)))
+      (ap (λ (x : Half). x .total) (halfOf-served s clock es (ofGrade grade) (interval s stamp) (interval-mono s low) (interval-near s stamp clock (omega arith))))
 
   pub agree : (call : Call) → firstOf (refusals (bookView ws) call) ≡ firstOf (refusals exactView call)
   unfolding refusals ledgerView
@@ -61,7 +62,7 @@ module _ (l : Ledger) (good : Good l) where
       (past (ltb (length ws) headLen) 2 (λ _. past (not (eqb (length ws) (bookWords s))) 2 (λ _. past (not (ltb grade (s .g))) 3 (λ inside.
       let h : grade < s .g = ltb-true grade (s .g) (not-false (ltb grade (s .g)) inside) in
       past (eqb volume 0 || ltb 65535 volume) 4 (λ _. past (ltb clock stamp) 8 (λ low. past (late s clock stamp) 9 (λ high.
-      rw (words-sound l good grade h, total-agrees grade stamp h (ltb-false clock stamp low) (ltb-false (stamp + 2 ^ s .k) clock high)))))))))
+      rw (words-sound l good grade h, total-agrees grade stamp h (ltb-false clock stamp low) (leb-false (stamp + 2 ^ s .k) clock high)))))))))
   agree (Query grade window) =
       rw (bookView-grown, words-head l good)
       (past (ltb (length ws) headLen) 2 (λ _. past (not (eqb (length ws) (bookWords s))) 2 (λ _. past (not (ltb grade (s .g))) 3 (λ inside.

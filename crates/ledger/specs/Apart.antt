@@ -12,7 +12,7 @@ use Rattle.shape.specs.declared.Shape.{Shape}
 use Rattle.shape.specs.Limits.{Reply, accepted, refused}
 use Rattle.shape.specs.Layout.{headLen, bookWords, blockWords, blockStart}
 use Rattle.model.specs.declared.Call.the-variants.{Delivery, Query}
-use Rattle.model.specs.Block.{Block, opening, answer, deliver}
+use Rattle.model.specs.Block.{Block, windowSum, deliver}
 use Rattle.model.specs.Words.{shapeOf, clockOf, blockPart, decodeBlock, encodeBlock, withBlock}
 use Rattle.model.specs.Sound.{soundHead, soundBlock}
 use Rattle.model.specs.Calls.{View, blockAt, firstOf, opened, refusals, bookView, outcomeOf, accept, perform, delivered}
@@ -29,7 +29,7 @@ abbrev queryReply : ℕ → Bool → Shape → ℕ → Bool → Block → ℕ �
 queryReply lent headSound s clock blockSound b grade window =
     let v : View = record { lent = lent; headSound = headSound; shape = s; clock = clock; blockSound = λ _. blockSound; total = λ _ _. 0 } in
     let number = firstOf (opened v ++ (not (ltb grade (s .g)), 3) ∷ (ltb (2 ^ s .k) window, 5) ∷ (not blockSound, 11) ∷ []) in
-    cond (eqb number 0) (accepted (answer s clock (opening clock window) b ∷ [])) (refused number)
+    cond (eqb number 0) (accepted (windowSum s clock window b ∷ [])) (refused number)
 
 query-reply : (ws : List ℕ) (grade window : ℕ)
     → perform ws (Query grade window) .reply

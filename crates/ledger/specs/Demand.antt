@@ -8,12 +8,12 @@ use Prim.Native.Nat.{ℕ, _+_, _^_, _≤_, _<_}
 use native.Mathlib.Nat.{le-refl}
 use native.Mathlib.Omega.{arith}
 use lib.ListN.{length, getD}
-use borrow.Author.Tests.{lt-ltb, ltb-true}
+use borrow.Author.Tests.{le-leb, leb-true}
 use Rattle.shape.specs.declared.Shape.{Shape}
 use Rattle.shape.specs.Limits.{shaped}
 use Rattle.model.specs.declared.Call.{Call}
 use Rattle.model.specs.declared.Call.the-variants.{Make, Clock, Delivery, Query}
-use Rattle.model.specs.Block.{late, answer, opening}
+use Rattle.model.specs.Block.{late, windowSum}
 use Rattle.model.specs.Words.{shapeOf, clockOf}
 use Rattle.model.specs.Calls.{View, blockAt, firstOf, refusals, bookView, accept, perform, clocked, delivered}
 use Rattle.model.specs.Ledger.{Entry, Ledger, ledgerOf, volumeOf, ofGrade, ofWindow, ledgerView, note, enter}
@@ -148,21 +148,21 @@ module _ (l : Ledger) (good : Good l) where
   abbrev turn : Call → Turn
   turn call = record { call = call; ledger = l; book = perform ws call .reply; exact = enter (length ws) l call .reply }
 
-  answer-is : (grade window : ℕ) → grade < s .g
-      → answer (shapeOf ws) (clockOf ws) (opening (clockOf ws) window) (blockAt ws grade) ≡ answer s clock (opening clock window) (blockFor s clock es (ofGrade grade))
-  answer-is grade window h = rw (words-clock l good) (ap₂ (λ (z : Shape). answer z clock (opening clock window)) (words-shape l good) (block-is l good grade h))
+  sum-is : (grade window : ℕ) → grade < s .g
+      → windowSum (shapeOf ws) (clockOf ws) window (blockAt ws grade) ≡ windowSum s clock window (blockFor s clock es (ofGrade grade))
+  sum-is grade window h = rw (words-clock l good) (ap₂ (λ (z : Shape). windowSum z clock window) (words-shape l good) (block-is l good grade h))
 
   -- if a relation holds of the two sums, it holds of the replies to an answered question
   query-relates : (grade window : ℕ) (R : ℕ → ℕ → Type 0) → turn (Query grade window) .book .number ≡ 0
       → (grade < s .g → window ≤ 2 ^ s .k
-      → R (answer s clock (opening clock window) (blockFor s clock es (ofGrade grade))) (volumeOf (ofWindow clock (ofGrade grade) window) es))
+      → R (windowSum s clock window (blockFor s clock es (ofGrade grade))) (volumeOf (ofWindow clock (ofGrade grade) window) es))
       → R (getD (turn (Query grade window) .book .values) 0 0) (getD (turn (Query grade window) .exact .values) 0 0)
   unfolding ledgerView
   query-relates grade window R number held =
       let call : Call = Query grade window in
       let h : first call ≡ 0 = sym (perform-number ws call) ∙ number in
       let facts = accepted-query exactView grade window (exact-first call h) in
-      rw (book-accepted call h, exact-accepted call h, answer-is grade window (facts .inside)) (held (facts .inside) (facts .short))
+      rw (book-accepted call h, exact-accepted call h, sum-is grade window (facts .inside)) (held (facts .inside) (facts .short))
 
   query-bound : (grade window : ℕ) → Bound (turn (Query grade window))
   query-bound grade window number room =
@@ -182,30 +182,30 @@ module _ (l : Ledger) (good : Good l) where
 
   -- ---- what is late stays late through the span
 
-  module _ (call : Call) (c : Next l call) (stamp : ℕ) (h : stamp + 2 ^ s .k < clock) where
-    late-next : ByCall (perform ws call .reply .number ≡ 0 → ⊥) (Unit {0}) (λ _. Unit {0}) (λ _ _. Unit {0}) call → stamp + 2 ^ c .later .shape .k < c .later .clock
+  module _ (call : Call) (c : Next l call) (stamp : ℕ) (h : stamp + 2 ^ s .k ≤ clock) where
+    late-next : ByCall (perform ws call .reply .number ≡ 0 → ⊥) (Unit {0}) (λ _. Unit {0}) (λ _ _. Unit {0}) call → stamp + 2 ^ c .later .shape .k ≤ c .later .clock
     late-next within =
         let facts = c .span within in
         let power : 2 ^ c .later .shape .k ≡ 2 ^ s .k = ap (λ (z : ℕ). 2 ^ z) (facts .0) in
         omega (arith, facts .1)
 
-  span-step : (call : Call) (c : Next l call) (ts : List Turn) (stamp : ℕ) → stamp + 2 ^ s .k < clock
-      → (stamp + 2 ^ c .later .shape .k < c .later .clock → Span (Outside stamp) ts) → Span (Outside stamp) (turn call ∷ ts)
+  span-step : (call : Call) (c : Next l call) (ts : List Turn) (stamp : ℕ) → stamp + 2 ^ s .k ≤ clock
+      → (stamp + 2 ^ c .later .shape .k ≤ c .later .clock → Span (Outside stamp) ts) → Span (Outside stamp) (turn call ∷ ts)
   span-step (Make k′ n′ m′ g′) c ts stamp h rest = λ refused. (tt, rest (late-next (Make k′ n′ m′ g′) c stamp h refused))
   span-step (Clock to) c ts stamp h rest = (tt, rest (late-next (Clock to) c stamp h tt))
   span-step (Delivery grade other volume) c ts stamp h rest = (tt, rest (late-next (Delivery grade other volume) c stamp h tt))
   span-step (Query grade window) c ts stamp h rest = (
-    λ w. late-outside s clock clock window stamp (lt-ltb (stamp + 2 ^ s .k) clock h) (le-refl clock) w,
+    λ w. late-outside s clock clock window stamp (le-leb (stamp + 2 ^ s .k) clock h) (le-refl clock) w,
     rest (late-next (Query grade window) c stamp h tt),
   )
 
   missed-step : (call : Call) (c : Next l call) (ts : List Turn)
-      → ((stamp : ℕ) → stamp + 2 ^ c .later .shape .k < c .later .clock → Span (Outside stamp) ts)
+      → ((stamp : ℕ) → stamp + 2 ^ c .later .shape .k ≤ c .later .clock → Span (Outside stamp) ts)
       → ByCall (Unit {0}) (Unit {0}) (λ stamp. turn call .book .number ≡ 9 → Span (Outside stamp) ts) (λ _ _. Unit {0}) call
   missed-step (Make k′ n′ m′ g′) c ts rest = tt
   missed-step (Clock to) c ts rest = tt
   missed-step (Delivery grade stamp volume) c ts rest = λ number.
-      let h : stamp + 2 ^ s .k < clock = ltb-true (stamp + 2 ^ s .k) clock (turn-late grade stamp volume number) in
+      let h : stamp + 2 ^ s .k ≤ clock = leb-true (stamp + 2 ^ s .k) clock (turn-late grade stamp volume number) in
       rest stamp (late-next (Delivery grade stamp volume) c stamp h tt)
   missed-step (Query grade window) c ts rest = tt
 
@@ -216,7 +216,7 @@ abbrev grown : Ledger → List Call → List Turn
 grown l calls = run (wordsOf l) l calls
 
 -- a late stamp lies outside every window in the rest of the span
-outside : (calls : List Call) (l : Ledger) → Good l → (stamp : ℕ) → stamp + 2 ^ l .shape .k < l .clock → Span (Outside stamp) (grown l calls)
+outside : (calls : List Call) (l : Ledger) → Good l → (stamp : ℕ) → stamp + 2 ^ l .shape .k ≤ l .clock → Span (Outside stamp) (grown l calls)
 unfolding run
 outside [] l good stamp h = tt
 outside (call ∷ calls) l good stamp h =

@@ -10,7 +10,7 @@ use Rattle.shape.specs.Layout.{bookWords, blockWords, blockStart, levelStart}
 use Rattle.model.specs.declared.Call.{Call}
 use Rattle.model.specs.declared.Call.the-variants.{Make, Clock, Delivery, Query}
 use Rattle.model.specs.Level.{unit, insert}
-use Rattle.model.specs.Block.{emptyHalf, deliverHalf, deliver, advance, answer}
+use Rattle.model.specs.Block.{emptyHalf, deliverHalf, deliver, advance, answer, windowSum}
 use Rattle.model.specs.Words.{decodeLevel, decodeHalf, decodeBlock, encodeLevel, encodeBlock}
 use Rattle.model.specs.Sound.{soundHead, soundLevel, soundHalf, soundBlock}
 use Rattle.model.specs.Calls.{Outcome, outcomeOf, refusals, bookView, made, clocked, delivered, perform}
@@ -62,7 +62,7 @@ constantSum c ws call =
 
 -- without deliveries the sum is 0, and after one decilitre 0 is wrong
 pub constant-excluded : (c : ℕ) → ClaimOf (constantSum c) → ⊥
-unfolding runOf perform refusals bookView made clocked delivered soundHead soundBlock soundHalf soundLevel within encodeBlock encodeLevel decodeBlock decodeHalf decodeLevel emptyHalf deliver deliverHalf advance answer unit insert blockWords bookWords blockStart levelStart enter ledgerView
+unfolding runOf perform refusals bookView made clocked delivered soundHead soundBlock soundHalf soundLevel within encodeBlock encodeLevel decodeBlock decodeHalf decodeLevel emptyHalf deliver deliverHalf advance answer windowSum unit insert blockWords bookWords blockStart levelStart enter ledgerView
 constant-excluded c claim =
     let kept = claim (replicate (bookWords (shaped 2 10 2 1)) 0) 2 10 2 1 refl (Query 0 4 ∷ Delivery 0 0 1 ∷ Query 0 4 ∷ []) in
     let none : c * 7 ≤ 0 = kept .bound .0 refl (omega arith) .above in
@@ -78,7 +78,7 @@ storesNothing ws (Delivery grade stamp volume) = outcomeOf (perform ws (Delivery
 storesNothing ws (Query grade window) = perform ws (Query grade window)
 
 pub nothing-excluded : ClaimOf storesNothing → ⊥
-unfolding runOf perform refusals bookView made clocked delivered soundHead soundBlock soundHalf soundLevel within encodeBlock encodeLevel decodeBlock decodeHalf decodeLevel emptyHalf deliver deliverHalf advance answer unit insert blockWords bookWords blockStart levelStart enter ledgerView
+unfolding runOf perform refusals bookView made clocked delivered soundHead soundBlock soundHalf soundLevel within encodeBlock encodeLevel decodeBlock decodeHalf decodeLevel emptyHalf deliver deliverHalf advance answer windowSum unit insert blockWords bookWords blockStart levelStart enter ledgerView
 nothing-excluded claim =
     let kept = claim (replicate (bookWords (shaped 2 10 2 1)) 0) 2 10 2 1 refl (Delivery 0 0 1 ∷ Query 0 4 ∷ []) in
     let one : 1 * 7 ≤ 0 * 7 + 2 * 3 * 1 = kept .bound .1 .0 refl (omega arith) .below in

@@ -105,9 +105,9 @@ module _ (l : Ledger) (good : Good l) where
 
   -- ---- delivery
 
-  module _ (e : Entry) (inside : e .grade < s .g) (low : e .stamp ≤ clock) (high : clock ≤ e .stamp + 2 ^ s .k) where
+  module _ (e : Entry) (inside : e .grade < s .g) (low : e .stamp ≤ clock) (high : clock < e .stamp + 2 ^ s .k) where
     serves : served (interval s clock) (interval s (e .stamp) % 2) ≡ interval s (e .stamp)
-    serves = served-near (interval s clock) (interval s (e .stamp)) (interval-mono s low) (interval-near s (e .stamp) clock high)
+    serves = served-near (interval s clock) (interval s (e .stamp)) (interval-mono s low) (interval-near s (e .stamp) clock (omega arith))
 
     abbrev new : List ℕ
     new = encodeBlock s (deliver s (e .stamp) (e .volume) (blockFor s clock es (ofGrade (e .grade))))

@@ -7,7 +7,7 @@ use native.Mathlib.Nat.{mul-le-mul-right, add-mul, mod-lt}
 use native.Mathlib.Omega.{arith}
 use lib.Pow.{pow-pos, shr-mono}
 use lib.Pow
-use borrow.Author.Tests.{lt-leb, ltb-true}
+use borrow.Author.Tests.{lt-leb, leb-true}
 use Rattle.shape.specs.declared.Shape.{Shape}
 use Rattle.model.specs.Block.{interval, offsetOf, opening, covers, late}
 use Rattle.laws.specs.Cond.{lt-or-ge}
@@ -52,4 +52,4 @@ module _ (s : Shape) where
 pub late-outside : (s : Shape) (clock later window stamp : ℕ) → late s clock stamp ≡ true → clock ≤ later → window ≤ 2 ^ s .k
     → covers later window stamp ≡ false
 late-outside s clock later window stamp h up w =
-    rw (lt-leb (opening later window) stamp (omega (arith, ltb-true (stamp + 2 ^ s .k) clock h)))
+    rw (lt-leb (opening later window) stamp (omega (arith, leb-true (stamp + 2 ^ s .k) clock h)))

@@ -10,7 +10,8 @@ use native.Mathlib.Omega.{arith}
 use lib.Dec.{leb}
 use borrow.Author.Tests.{le-leb, lt-leb, eq-eqb, ne-eqb}
 use Rattle.shape.specs.declared.Shape.{Shape}
-use Rattle.model.specs.Block.{interval, offsetOf, opening, answer, sumFrom, serving}
+use Rattle.model.specs.Block.{interval, offsetOf, opening, covers, answer, windowSum, sumFrom, serving}
+use Rattle.model.specs.BlockLaws.{covers-none, windowSum-none, windowSum-some}
 use Rattle.model.specs.Ledger.{Entry, Ledger, volumeOf, ofInterval, ofWindow}
 use Rattle.model.specs.Claim.{Each, Admits}
 use Rattle.laws.specs.Cond.{lt-or-ge, eq-or-ne}
@@ -52,6 +53,15 @@ volumeOf-sum : (p q r : Entry → Bool) (es : List Entry) → Each (λ e. cond (
     → volumeOf p es ≡ volumeOf q es + volumeOf r es
 volumeOf-sum p q r [] h = refl
 volumeOf-sum p q r (e ∷ es) h = omega (arith, h .0, volumeOf-sum p q r es (h .1))
+
+-- no entry is in window 0
+window-none : (clock : ℕ) (p : Entry → Bool) (es : List Entry) → volumeOf (ofWindow clock p 0) es ≡ 0
+window-none clock p [] = refl
+window-none clock p (e ∷ es) = rw (covers-none clock (e .stamp), window-none clock p es) (none (p e))
+  where
+    none : (g : Bool) → _≡_ {A = ℕ} (cond (g && false) (e .volume) 0 + 0) 0
+    none true = refl
+    none false = refl
 
 module _ (s : Shape) (clock : ℕ) (p : Entry → Bool) (window : ℕ) where
   abbrev start : ℕ
@@ -160,13 +170,13 @@ module _ (l : Ledger) (good : Good l) where
   abbrev HalfRelates : (ℕ → ℕ → Type 0) → (Entry → Bool) → ℕ → ℕ → Type 0
   HalfRelates R p j a = R (sumFrom a (serving a (halfFor s (ofInterval s p j) es .levels) .buckets)) (volumeOf (fromOffset s p j a) es)
 
-  -- if a relation survives adding the same volume on both sides and holds of the half in which the window opens, it holds of the window's
-  -- sums
-  pub sum-relates : (R : ℕ → ℕ → Type 0) → ((x y more : ℕ) → R x y → R (x + more) (y + more)) → (p : Entry → Bool) (window : ℕ) → window ≤ 2 ^ s .k
-      → HalfRelates R p (interval s (opening clock window)) (offsetOf s (opening clock window))
+  -- if a relation survives adding the same volume on both sides and holds of the half in which the window opens, it holds of the sums of a
+  -- window above 0
+  opened-relates : (R : ℕ → ℕ → Type 0) → ((x y more : ℕ) → R x y → R (x + more) (y + more)) → (p : Entry → Bool) (window : ℕ) → 0 < window
+      → window ≤ 2 ^ s .k → HalfRelates R p (interval s (opening clock window)) (offsetOf s (opening clock window))
       → R (answer s clock (opening clock window) (blockFor s clock es p)) (volumeOf (ofWindow clock p window) es)
   unfolding answer halfFed
-  sum-relates R more p window w half =
+  opened-relates R more p window some w half =
       let start : ℕ = opening clock window in
       let from : ℕ = interval s start in
       let current : ℕ = interval s clock in
@@ -180,18 +190,30 @@ module _ (l : Ledger) (good : Good l) where
       (more _ _ (volumeOf (ofInterval s p current) es) half))
       (eq-or-ne from current))
 
+  -- if it holds of 0 and 0 too, it holds of the sums of every window
+  pub sum-relates : (R : ℕ → ℕ → Type 0) → ((x y more : ℕ) → R x y → R (x + more) (y + more)) → R 0 0 → (p : Entry → Bool) (window : ℕ)
+      → window ≤ 2 ^ s .k → (0 < window → HalfRelates R p (interval s (opening clock window)) (offsetOf s (opening clock window)))
+      → R (windowSum s clock window (blockFor s clock es p)) (volumeOf (ofWindow clock p window) es)
+  sum-relates R more nothing p window w half =
+      ⊎-elim
+      (λ (none : window ≡ 0). rw (windowSum-none s clock window (blockFor s clock es p) none, none, window-none clock p es) nothing)
+      (λ (other : window ≡ 0 → ⊥).
+      let some : 0 < window = omega (arith, other) in
+      rw (windowSum-some s clock window (blockFor s clock es p) other) (opened-relates R more p window some w (half some)))
+      (eq-or-ne window 0)
+
   -- the bound, if no interval of these entries has more than 2^M
   module _ (p : Entry → Bool) (few : (j : ℕ) → volumeOf (ofInterval s p j) es ≤ 2 ^ s .m) where
     small : (j : ℕ) → counted (events s (ofInterval s p j) es) 0 < s .n * 2 ^ s .last
     small j = omega (arith, counted-all s (ofInterval s p j) es, few j, good .reach)
 
     pub answer-admits : s .k + 1 < s .n → (window : ℕ) → window ≤ 2 ^ s .k
-        → Admits (s .n) (s .k) (answer s clock (opening clock window) (blockFor s clock es p)) (volumeOf (ofWindow clock p window) es)
+        → Admits (s .n) (s .k) (windowSum s clock window (blockFor s clock es p)) (volumeOf (ofWindow clock p window) es)
     unfolding halfFed
     answer-admits room window w =
         let j : ℕ = interval s (opening clock window) in
         let a : ℕ = offsetOf s (opening clock window) in
         let q : Entry → Bool = ofInterval s p j in
-        sum-relates (Admits (s .n) (s .k)) (admits-more (s .n) (s .k)) p window w
-        (rw (← counted-events s q a es)
+        sum-relates (Admits (s .n) (s .k)) (admits-more (s .n) (s .k)) (record { above = omega arith; below = omega arith }) p window w
+        (λ _. rw (← counted-events s q a es)
         (relative (s .k) (s .n) (s .last) (events s q es) (events-inside s q es) room (small j) a (offset-lt s (opening clock window))))

@@ -2,7 +2,7 @@
 use mathlib.Core.Bool.{Bool, true, false, cond, _&&_}
 use mathlib.Core.List.{List, [], _∷_}
 use Prim.Native.Nat.{ℕ, zero, suc, _+_, _-_, _/_, _%_, _^_}
-use lib.Dec.{leb, ltb, eqb}
+use lib.Dec.{leb, eqb}
 use Rattle.shape.specs.declared.Shape.{Shape}
 use Rattle.model.specs.Level.{Bucket, Level, levelOf, insert, emptyLevel}
 
@@ -27,14 +27,14 @@ interval s t = t / 2 ^ s .k
 abbrev pub offsetOf : Shape → ℕ → ℕ  -- SPECIFICATION 2.3: its offset there
 offsetOf s t = t % 2 ^ s .k
 
-abbrev pub opening : ℕ → ℕ → ℕ  -- SPECIFICATION 5.5: the first stamp of a window; `-` gives 0 where the window exceeds the clock
-opening clock window = clock - window
+abbrev pub opening : ℕ → ℕ → ℕ  -- SPECIFICATION 5.5: the first stamp above clock - window, at which the window opens; `-` gives 0 where the window exceeds the clock
+opening clock window = clock + 1 - window
 
-abbrev pub covers : ℕ → ℕ → ℕ → Bool  -- SPECIFICATION 5.5: the stamps of a window run from its opening to the clock, both included
+abbrev pub covers : ℕ → ℕ → ℕ → Bool  -- SPECIFICATION 5.5: the stamps of a window run from its opening to the clock, both included; window 0 has none
 covers clock window stamp = leb (opening clock window) stamp && leb stamp clock
 
 abbrev pub late : Shape → ℕ → ℕ → Bool  -- SPECIFICATION 6.2, condition 9
-late s clock stamp = ltb (stamp + 2 ^ s .k) clock
+late s clock stamp = leb (stamp + 2 ^ s .k) clock
 
 abbrev pub halfOf : ℕ → Block → Half  -- the half that serves interval j
 halfOf j b = cond (eqb (j % 2) 0) (b .even) (b .odd)
@@ -75,3 +75,6 @@ answer s clock start b =
     let from = interval s start in
     let sum = sumFrom (offsetOf s start) (serving (offsetOf s start) (halfOf from b .levels) .buckets) in
     cond (eqb from (interval s clock)) sum (sum + halfOf (interval s clock) b .total)
+
+unfoldable pub windowSum : Shape → ℕ → ℕ → Block → ℕ  -- SPECIFICATION 5.5: the sum of a window, 0 for window 0
+windowSum s clock window b = cond (eqb window 0) 0 (answer s clock (opening clock window) b)

@@ -1,10 +1,96 @@
--- Which halves the clock empties, by how many intervals it goes on. Assumes nothing.
-use mathlib.Core.Bool.{true, false}
-use mathlib.Core.Path.{_≡_}
-use Prim.Native.Nat.{ℕ, _+_, _%_, _<_}
+-- What a window covers and what is late, in the words of request One; the sum of a window by its two cases; which halves the clock empties,
+-- by how many intervals it goes on. Assumes nothing.
+use mathlib.Core.Bool.{Bool, true, false, _&&_, _||_}
+use mathlib.Core.Path.{_≡_, refl, sym}
+use Prim.Native.Nat.{ℕ, _+_, _-_, _%_, _^_, _≤_, _<_}
+use native.Mathlib.Nat.{le-refl}
 use native.Mathlib.Omega.{arith}
-use borrow.Author.Tests.{eq-eqb, ne-eqb}
-use Rattle.model.specs.Block.{empties}
+use lib.Dec.{leb, ltb}
+use borrow.Author.Tests.{ltb-true, ltb-false, leb-true, leb-false, le-leb, lt-leb, eq-eqb, ne-eqb}
+use Rattle.shape.specs.declared.Shape.{Shape}
+use Rattle.shape.specs.LimitsLaws.{both}
+use Rattle.model.specs.Block.{Block, opening, covers, late, answer, windowSum, empties}
+
+-- ---- windows
+
+module _ (clock window : ℕ) where
+  -- a window covers the stamps above clock - window, up to the clock
+  pub covers-above : (stamp : ℕ) → covers clock window stamp ≡ (ltb clock (stamp + window) && leb stamp clock)
+  covers-above stamp = go (ltb clock (stamp + window)) refl
+    where
+      go : (t : Bool) → ltb clock (stamp + window) ≡ t → covers clock window stamp ≡ (t && leb stamp clock)
+      go true h = rw (le-leb (opening clock window) stamp (omega (arith, ltb-true clock (stamp + window) h)))
+      go false h = rw (lt-leb (opening clock window) stamp (omega (arith, ltb-false clock (stamp + window) h)))
+
+  -- where it exceeds the clock, these are all stamps from 0
+  pub opening-zero : clock < window → opening clock window ≡ 0
+  opening-zero h = omega arith
+
+  -- its opening is the first stamp that it covers
+  pub opening-covered : 0 < window → covers clock window (opening clock window) ≡ true
+  opening-covered some =
+      let start : ℕ = opening clock window in
+      rw (le-leb start start (le-refl start), le-leb start clock (omega arith))
+
+  pub opening-first : (stamp : ℕ) → stamp < opening clock window → covers clock window stamp ≡ false
+  opening-first stamp h = rw (lt-leb (opening clock window) stamp h)
+
+-- window 0 covers nothing
+pub covers-none : (clock stamp : ℕ) → covers clock 0 stamp ≡ false
+covers-none clock stamp = go (leb (opening clock 0) stamp) refl
+  where
+    go : (t : Bool) → leb (opening clock 0) stamp ≡ t → (t && leb stamp clock) ≡ false
+    go true h = lt-leb stamp clock (omega (arith, leb-true (opening clock 0) stamp h))
+    go false h = refl
+
+none : (t : Bool) → (t && false) ≡ false
+none true = refl
+none false = refl
+
+-- windows read end to end, the earlier one at the clock less the later one: no stamp stands in both, and together they are one window
+module _ (clock window earlier stamp : ℕ) (h : window ≤ clock) where
+  pub covers-once : covers clock window stamp ≡ true → covers (clock - window) earlier stamp ≡ false
+  covers-once here =
+      let above : opening clock window ≤ stamp = leb-true (opening clock window) stamp (both here .0) in
+      rw (lt-leb stamp (clock - window) (omega arith)) (none (leb (opening (clock - window) earlier) stamp))
+
+  pub covers-joined : covers clock (window + earlier) stamp ≡ (covers clock window stamp || covers (clock - window) earlier stamp)
+  covers-joined = go (leb (opening clock window) stamp) refl
+    where
+      same : opening clock (window + earlier) ≡ opening (clock - window) earlier
+      same = omega arith
+
+      later : (t u : Bool) → u ≡ false → t ≡ (t || u)
+      later true u e = refl
+      later false u e = sym e
+
+      go : (t : Bool) → leb (opening clock window) stamp ≡ t → covers clock (window + earlier) stamp ≡ ((t && leb stamp clock) || covers (clock - window) earlier stamp)
+      go true e =
+          let above : opening clock window ≤ stamp = leb-true (opening clock window) stamp e in
+          rw (le-leb (opening clock (window + earlier)) stamp (omega arith), lt-leb stamp (clock - window) (omega arith))
+          (later (leb stamp clock) (leb (opening (clock - window) earlier) stamp && false) (none (leb (opening (clock - window) earlier) stamp)))
+      go false e =
+          let below : stamp < opening clock window = leb-false (opening clock window) stamp e in
+          rw (same, le-leb stamp clock (omega arith), le-leb stamp (clock - window) (omega arith))
+
+-- late is a stamp below the opening of the longest window
+pub late-below : (s : Shape) (clock stamp : ℕ) → late s clock stamp ≡ ltb stamp (opening clock (2 ^ s .k))
+late-below s clock stamp = go (ltb stamp (opening clock (2 ^ s .k))) refl
+  where
+    go : (t : Bool) → ltb stamp (opening clock (2 ^ s .k)) ≡ t → late s clock stamp ≡ t
+    go true h = le-leb (stamp + 2 ^ s .k) clock (omega (arith, ltb-true stamp (opening clock (2 ^ s .k)) h))
+    go false h = lt-leb (stamp + 2 ^ s .k) clock (omega (arith, ltb-false stamp (opening clock (2 ^ s .k)) h))
+
+module _ (s : Shape) (clock window : ℕ) (b : Block) where
+  pub windowSum-none : window ≡ 0 → windowSum s clock window b ≡ 0
+  unfolding windowSum
+  windowSum-none h = rw (eq-eqb window 0 h)
+
+  pub windowSum-some : (window ≡ 0 → ⊥) → windowSum s clock window b ≡ answer s clock (opening clock window) b
+  unfolding windowSum
+  windowSum-some h = rw (ne-eqb window 0 h)
+
+-- ---- the clock
 
 module _ (from to j : ℕ) where
   -- within an interval none is emptied

@@ -11,7 +11,7 @@ use Rattle.model.specs.declared.Call.{Call}
 use Rattle.model.specs.declared.Call.the-variants.{Make, Clock, Delivery, Query}
 use Rattle.shape.specs.Layout.{bookWords, blockWords, blockStart, levelStart}
 use Rattle.model.specs.Level.{Level, levelOf, bucketOf, unit, insert}
-use Rattle.model.specs.Block.{opening, offsetOf, interval, halfOf, serving, emptyHalf, deliverHalf, deliver, advance, answer}
+use Rattle.model.specs.Block.{opening, offsetOf, interval, halfOf, serving, emptyHalf, deliverHalf, deliver, advance, answer, windowSum}
 use Rattle.model.specs.Words.{shapeOf, clockOf, decodeLevel, decodeHalf, decodeBlock, encodeLevel, encodeBlock}
 use Rattle.model.specs.Sound.{soundHead, soundLevel, soundHalf, soundBlock}
 use Rattle.model.specs.Calls.{blockAt, refusals, bookView, made, clocked, delivered, perform}
@@ -111,21 +111,34 @@ table =
     ∷ example p₃
     (levelIs 0 (levelOf 1 (bucketOf 1 1 1 ∷ bucketOf 3 1 1 ∷ []))
     ∷ levelIs 1 (levelOf 0 (bucketOf 0 2 3 ∷ bucketOf 2 2 2 ∷ []))
-    ∷ answers (q 2) (accepted (2 ∷ []))
-    ∷ answers (q 3) (accepted (5 ∷ []))
-    ∷ servedFrom 3 1
+    ∷ answers (q 2) (accepted (1 ∷ []))
+    ∷ servedFrom 2 0
+    ∷ answers (q 3) (accepted (2 ∷ []))
+    ∷ servedFrom 3 0
+    -- the window that exceeds the clock opens at 0
+    ∷ answers (q 4) (accepted (5 ∷ []))
+    ∷ servedFrom 4 1
+    -- window 0
+    ∷ answers (q 0) (accepted (0 ∷ []))
+    ∷ exactly (q 0) (accepted (0 ∷ []))
+    ∷ answers (Query 1 0) (refused 3)
     ∷ [])
     -- P6
     ∷ example p₆
     (levelIs 1 (levelOf 1 (bucketOf 1 1 2 ∷ bucketOf 2 2 2 ∷ []))
-    ∷ answers (q 3) (accepted (6 ∷ []))
-    ∷ servedFrom 3 2
+    ∷ answers (q 3) (accepted (3 ∷ []))
+    ∷ servedFrom 3 0
     ∷ [])
     -- P7, with the ledger's sum, and P9 at each stamp
     ∷ example p₇
     (levelIs 2 (levelOf 0 (bucketOf 0 2 4 ∷ bucketOf 2 2 4 ∷ []))
-    ∷ answers (q 2) (accepted (4 ∷ []))
-    ∷ exactly (q 2) (accepted (5 ∷ []))
+    ∷ answers (q 2) (accepted (3 ∷ []))
+    ∷ exactly (q 2) (accepted (3 ∷ []))
+    ∷ servedFrom 2 0
+    -- the bucket that the opening cuts
+    ∷ answers (q 3) (accepted (4 ∷ []))
+    ∷ exactly (q 3) (accepted (5 ∷ []))
+    ∷ servedFrom 3 2
     ∷ answers (d 0 8) (accepted [])
     ∷ answers (d 1 8) (accepted [])
     ∷ answers (d 2 8) (accepted [])
@@ -142,12 +155,20 @@ table =
     ∷ example (p₇ ++ d 2 2 ∷ []) (levelIs 1 (levelOf 2 (bucketOf 2 1 4 ∷ bucketOf 3 1 2 ∷ [])) ∷ [])
     -- P10
     ∷ example (p₇ ++ Clock 8 ∷ [])
-    (answers (d 4 1) (accepted [])
+    (answers (d 5 1) (accepted [])
+    ∷ answers (d 4 1) (refused 9)
     ∷ answers (d 3 1) (refused 9)
     ∷ answers (d 9 1) (refused 8)
     -- what another interval holds does not count for 12
     ∷ answers (d 8 9) (accepted [])
     ∷ exactly (d 8 9) (accepted [])
+    ∷ [])
+    -- windows 1 and 2 at the first tick of the next interval
+    ∷ example (p₇ ++ Clock 4 ∷ d 4 1 ∷ [])
+    (answers (q 1) (accepted (1 ∷ []))
+    ∷ exactly (q 1) (accepted (1 ∷ []))
+    ∷ answers (q 2) (accepted (2 ∷ []))
+    ∷ exactly (q 2) (accepted (2 ∷ []))
     ∷ [])
     -- a refused delivery leaves the level, and the ledger's sum, as they were
     ∷ example (p₇ ++ d 0 9 ∷ [])
@@ -157,17 +178,17 @@ table =
     ∷ []
 
 pub table-holds : Each Meets table
-unfolding perform refusals bookView made clocked delivered soundHead soundBlock soundHalf soundLevel within encodeBlock encodeLevel decodeBlock decodeHalf decodeLevel emptyHalf deliver deliverHalf advance answer unit insert blockWords bookWords blockStart levelStart enter ledgerView
+unfolding perform refusals bookView made clocked delivered soundHead soundBlock soundHalf soundLevel within encodeBlock encodeLevel decodeBlock decodeHalf decodeLevel emptyHalf deliver deliverHalf advance answer windowSum unit insert blockWords bookWords blockStart levelStart enter ledgerView
 table-holds = (
   (refl, tt),
   (
     (refl, tt),
     (
-      (refl, (refl, (refl, (refl, ((refl, refl), tt))))),
+      (refl, (refl, (refl, ((refl, refl), (refl, ((refl, refl), (refl, ((refl, refl), (refl, (refl, (refl, tt))))))))))),
       (
         (refl, (refl, ((refl, refl), tt))),
         (
-          (refl, (refl, (refl, (refl, (refl, (refl, (refl, (refl, (refl, (refl, (refl, tt))))))))))),
+          (refl, (refl, (refl, ((refl, refl), (refl, (refl, ((refl, refl), (refl, (refl, (refl, (refl, (refl, (refl, (refl, (refl, tt))))))))))))))),
           (
             (refl, tt),
             (
@@ -175,10 +196,13 @@ table-holds = (
               (
                 (refl, tt),
                 (
-                  (refl, (refl, (refl, (refl, (refl, tt))))),
+                  (refl, (refl, (refl, (refl, (refl, (refl, tt)))))),
                   (
-                    (refl, (refl, tt)),
-                    tt,
+                    (refl, (refl, (refl, (refl, tt)))),
+                    (
+                      (refl, (refl, tt)),
+                      tt,
+                    ),
                   ),
                 ),
               ),

@@ -2,6 +2,7 @@
 use shape::Shape;
 use stamp::interval;
 use stamp::offset;
+use stamp::opening;
 use stamp::parity;
 ghost use mathlib.Core.Path.{_≡_};
 ghost use Prim.Native.Nat.{_+_, _%_, _^_, _≤_};
@@ -9,7 +10,7 @@ ghost use lib.Dec.{ltb};
 ghost use lib.ListN.{length, getD};
 ghost use Rattle.shape.specs.Layout.{blockHeadLen, totalStart};
 ghost use Rattle.model.specs.Words.{levelPart, decodeHalf, decodeBlock};
-ghost use Rattle.model.specs.Block.{interval, halfOf, servingIndex, answer};
+ghost use Rattle.model.specs.Block.{interval, halfOf, servingIndex, answer, windowSum};
 ghost use Rattle.model.specs.Sound.{soundHalf, soundBlock};
 ghost use Rattle.laws.specs.Proper.{Sized, Whole};
 ghost use Rattle.block.specs.Steps.{LevelIn};
@@ -97,7 +98,7 @@ fn finest(block: &[u32], s: Shape, parity: u8, a: u32) -> u8
 }
 
 // The sum of a window that opens at tick `start`.
-pub fn sum(block: &[u32], s: Shape, clock: u32, start: u32) -> u64
+fn sum(block: &[u32], s: Shape, clock: u32, start: u32) -> u64
     requires { ⌜ Whole s (now block) ⌝ }
     ensures { λ r. ⌜ r ≡ answer s clock start (decodeBlock s (now (block .entry))) ⌝ }
 {
@@ -112,4 +113,15 @@ pub fn sum(block: &[u32], s: Shape, clock: u32, start: u32) -> u64
         return sum;
     }
     sum + rest
+}
+
+// The sum of a window. Window 0 covers no stamp, so nothing is read.
+pub fn window_sum(block: &[u32], s: Shape, clock: u32, window: u32) -> u64
+    requires { ⌜ Whole s (now block) ⌝ }
+    ensures { λ r. ⌜ r ≡ windowSum s clock window (decodeBlock s (now (block .entry))) ⌝ }
+{
+    if window == 0 {
+        return 0;
+    }
+    sum(block, s, clock, opening(clock, window))
 }

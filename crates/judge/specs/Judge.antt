@@ -7,7 +7,7 @@ use Prim.Native.Nat.{ℕ, _+_, _^_, _≤_, _<_}
 use native.Mathlib.Omega.{arith}
 use lib.Dec.{ltb, eqb}
 use lib.ListN.{length, drop}
-use borrow.Author.Tests.{lt-ltb, le-ltb}
+use borrow.Author.Tests.{lt-ltb, le-ltb, lt-leb}
 use Rattle.shape.specs.declared.Shape.{Shape}
 use Rattle.shape.specs.Layout.{headLen, bookWords}
 use Rattle.model.specs.declared.Call.{Call}
@@ -39,7 +39,7 @@ pub record Due (ws : List ℕ) (s : Shape) (clock grade stamp volume : ℕ) : Ty
   pub inside : grade < s .g
   pub fair : (eqb volume 0 || ltb 65535 volume) ≡ false
   pub come : stamp ≤ clock
-  pub early : clock ≤ stamp + 2 ^ s .k
+  pub early : clock < stamp + 2 ^ s .k
 
 -- ---- the refusals with which every call but make begins
 
@@ -160,7 +160,7 @@ module _ {ws : List ℕ} {s : Shape} {clock grade stamp volume : ℕ} (d : Due w
   pub due-judges : firstRefusal ws (Delivery grade stamp volume) ≡ roomRefusal s ws grade stamp volume
   due-judges =
       delivery-judges ws s clock (d .book) grade stamp volume
-      ∙ rw (lt-ltb grade (s .g) (d .inside), d .fair, le-ltb clock stamp (d .come), le-ltb (stamp + 2 ^ s .k) clock (d .early))
+      ∙ rw (lt-ltb grade (s .g) (d .inside), d .fair, le-ltb clock stamp (d .come), lt-leb (stamp + 2 ^ s .k) clock (d .early))
 
 -- if a call is accepted, the book is open
 pub judges-open : (ws : List ℕ) (s : Shape) (clock : ℕ) (call : Call) → Begins call → Told (firstRefusal ws call) ws (Book s clock) → Open ws s clock

@@ -64,7 +64,7 @@ pub fn judge_delivery_in(
     if clock < stamp {
         return Opened::Refused(Refusal::Ahead);
     }
-    if stamp + words::power(s.k) < clock {
+    if stamp + words::power(s.k) <= clock {
         return Opened::Refused(Refusal::Late);
     }
     judge_room(book, s, clock, grade, stamp, volume)

@@ -10,7 +10,7 @@ use native.Mathlib.Omega.{arith}
 use lib.Dec.{leb}
 use borrow.Author.Tests.{le-leb, lt-leb, eq-eqb, ne-eqb}
 use Rattle.shape.specs.declared.Shape.{Shape}
-use Rattle.model.specs.Block.{interval, offsetOf, opening, covers, answer, windowSum, sumFrom, serving}
+use Rattle.model.specs.Block.{interval, offsetOf, opening, answer, windowSum, sumFrom, serving}
 use Rattle.model.specs.BlockLaws.{covers-none, windowSum-none, windowSum-some}
 use Rattle.model.specs.Ledger.{Entry, Ledger, volumeOf, ofInterval, ofWindow}
 use Rattle.model.specs.Claim.{Each, Admits}

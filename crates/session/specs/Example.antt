@@ -5,7 +5,7 @@ use Prim.Native.Nat.{ℕ}
 use Rattle.shape.specs.Limits.{within}
 use Rattle.shape.specs.Layout.{blockWords, bookWords, blockStart, levelStart}
 use Rattle.model.specs.Level.{unit, insert}
-use Rattle.model.specs.Block.{emptyHalf, deliver, deliverHalf, advance, answer}
+use Rattle.model.specs.Block.{emptyHalf, deliver, deliverHalf, advance, answer, windowSum}
 use Rattle.model.specs.Words.{join, encodeBlock, encodeLevel, decodeBlock, decodeHalf, decodeLevel}
 use Rattle.model.specs.Sound.{soundHead, soundBlock, soundHalf, soundLevel}
 use Rattle.model.specs.Calls.{perform, refusals, bookView, made, clocked, delivered}
@@ -44,8 +44,8 @@ abbrev pub exampleOutput : List ℕ
 exampleOutput =
     join
     (ok ∷ ok ∷ ok ∷ ok ∷ ok
-    -- = 2
-    ∷ (61 ∷ 32 ∷ 50 ∷ 10 ∷ [])
+    -- = 1
+    ∷ (61 ∷ 32 ∷ 49 ∷ 10 ∷ [])
     -- refused 8
     ∷ (114 ∷ 101 ∷ 102 ∷ 117 ∷ 115 ∷ 101 ∷ 100 ∷ 32 ∷ 56 ∷ 10 ∷ [])
     -- = 5
@@ -55,7 +55,7 @@ exampleOutput =
     ∷ [])
 
 pub example-holds : output exampleInput ≡ exampleOutput
-unfolding output zeroBuffer parsedOf afterLine performOn grammar decimal textOf perform refusals bookView made clocked delivered soundHead soundBlock soundHalf soundLevel within encodeBlock encodeLevel decodeBlock decodeHalf decodeLevel emptyHalf deliver deliverHalf advance answer unit insert blockWords bookWords blockStart levelStart
+unfolding output zeroBuffer parsedOf afterLine performOn grammar decimal textOf perform refusals bookView made clocked delivered soundHead soundBlock soundHalf soundLevel within encodeBlock encodeLevel decodeBlock decodeHalf decodeLevel emptyHalf deliver deliverHalf advance answer windowSum unit insert blockWords bookWords blockStart levelStart
 example-holds = refl
 
 -- an empty line, and `x` at the end

@@ -16,7 +16,7 @@ use Rattle.model.specs.declared.Call.the-variants.{Make, Clock, Delivery, Query
 use Rattle.model.specs.declared.Refusal.{Refusal}
 use Rattle.model.specs.declared.Refusal.the-variants.{Length}
 use Rattle.model.specs.declared.Answer.the-variants.{Done, Sum, Refused}
-use Rattle.model.specs.Block.{upFrom, interval, opening, advance, deliver, answer}
+use Rattle.model.specs.Block.{upFrom, interval, advance, deliver, windowSum}
 use Rattle.model.specs.Words.{shapeOf, clockOf, blockPart, decodeBlock, encodeBlock, encodeHead, withBlock, join}
 use Rattle.model.specs.Sound.{soundBlock}
 use Rattle.model.specs.Calls.{blockAt, refusals, bookView, outcomeOf, accept, perform, made, clocked, delivered}
@@ -163,7 +163,7 @@ module _ (ws : List ℕ) (s : Shape) (clock grade window : ℕ) (o : Open ws s c
   unfolding bookView
   query-sound = rw (o .same) (facts-q .sound)
 
-  pub asked-outcome : outcomeOf (replyOf (Sum (answer s clock (opening clock window) (decodeBlock s (blockPart s grade ws))))) ws ≡ perform ws (Query grade window)
+  pub asked-outcome : outcomeOf (replyOf (Sum (windowSum s clock window (decodeBlock s (blockPart s grade ws))))) ws ≡ perform ws (Query grade window)
   unfolding replyOf
   asked-outcome = rw (o .same, o .now) (sym (accepted-outcome ws (Query grade window) h))
 

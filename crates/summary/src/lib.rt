@@ -15,7 +15,6 @@ use sweep::advance_blocks;
 use sweep::clear_blocks;
 use sweep::write_head;
 ghost use mathlib.Core.Path.{_≡_};
-ghost use Rattle.model.specs.Block.{opening};
 ghost use Rattle.model.specs.Words.{shapeOf};
 ghost use Rattle.model.specs.Reply.{replyOf};
 ghost use Rattle.model.specs.Calls.{outcomeOf, perform};
@@ -85,23 +84,12 @@ pub fn delivery(book: &mut [u32], grade: u32, stamp: u32, volume: u32) -> Answer
     }
 }
 
-// The first stamp of a window, 0 if the window exceeds the clock.
-fn opening(clock: u32, window: u32) -> u32
-    ensures { λ r. ⌜ r ≡ opening clock window ⌝ }
-{
-    if clock < window {
-        return 0;
-    }
-    clock - window
-}
-
 // An accepted question: only its block is handed on.
 fn ask(book: &[u32], shape: Shape, clock: u32, grade: u32, window: u32) -> Answer
     requires { ⌜ Open (now book) shape clock × (firstRefusal (now book) (Call.Query grade window) ≡ 0) ⌝ }
     ensures { λ r. ⌜ outcomeOf (replyOf r) (now (book .entry)) ≡ perform (now (book .entry)) (Call.Query grade window) ⌝ }
 {
-    let start = opening(clock, window);
-    Answer::Sum(block::sum(block_at(book, shape, grade), shape, clock, start))
+    Answer::Sum(block::window_sum(block_at(book, shape, grade), shape, clock, window))
 }
 
 pub fn query(book: &[u32], grade: u32, window: u32) -> Answer

@@ -1,22 +1,18 @@
--- Only the block of the grade is handed on; its sum is the answer.
-use borrow.Author.Needs.{needs}
+-- Only the block of the grade is handed on; its window's sum is the answer.
 use Rattle.judge.specs.Judge.{open-inside, open-whole}
 use Rattle.summary.specs.Outcome.{query-inside, query-sound, asked-outcome}
 use Rattle.summary.proofs.ask.Statement.{statement}
 use Rattle.summary.proofs.ask.Tie as tie
 
-opening-requires : tie.Need-opening-requires
-opening-requires c κs = search needs
-
 block-at-requires : tie.Need-block-at-requires
 block-at-requires c κs =
-    let d = c .before .before in
+    let d = c .before in
     let a = d .args in
     open-inside (a .book .now) (a .shape) (a .clock) (d .pre .0) (a .grade) (query-inside (a .book .now) (a .shape) (a .clock) (a .grade) (a .window) (d .pre .0) (d .pre .1))
 
-sum-requires : tie.Need-sum-requires
-sum-requires c κs =
-    let d = c .before .before .before in
+window-sum-requires : tie.Need-window-sum-requires
+window-sum-requires c κs =
+    let d = c .before .before in
     let a = d .args in
     rw (c .block-at .ensures)
     (open-whole (a .book .now) (a .shape) (a .clock) (d .pre .0) (a .grade) (query-inside (a .book .now) (a .shape) (a .clock) (a .grade) (a .window) (d .pre .0) (d .pre .1))
@@ -24,10 +20,10 @@ sum-requires c κs =
 
 returns : tie.Need-returns
 returns c =
-    let d = c .before .before .before .before in
+    let d = c .before .before .before in
     let a = d .args in
-    rw (c .sum .ensures, c .before .block-at .ensures, c .before .before .opening .ensures)
+    rw (c .window-sum .ensures, c .before .block-at .ensures)
     (asked-outcome (a .book .now) (a .shape) (a .clock) (a .grade) (a .window) (d .pre .0) (d .pre .1))
 
 pub ask-spec : {M : Type 1} → statement M
-ask-spec = tie.close (tie.spec opening-requires block-at-requires sum-requires returns)
+ask-spec = tie.close (tie.spec block-at-requires window-sum-requires returns)

@@ -1,10 +1,10 @@
 -- The tests are those of the refusals that are left, in their order; after 8 the sum with 2^k cannot wrap.
 use native.Mathlib.Omega.{arith}
 use borrow.Author.Needs.{needs}
-use borrow.Author.Tests.{lt-ltb, le-ltb, ltb-true, not-false}
+use borrow.Author.Tests.{le-leb, lt-ltb, le-ltb, ltb-true, not-false}
 use mathlib.Core.Bool.{cond, not}
 use mathlib.Core.Path.{_≡_, sym, _∙_}
-use Prim.Native.Nat.{_+_, _^_, _<_}
+use Prim.Native.Nat.{_+_, _^_, _≤_}
 use lib.Dec.{ltb}
 use lib.Pow.{pow-mono}
 use Rattle.model.specs.declared.Call.the-variants.{Delivery}
@@ -56,8 +56,8 @@ returns-4 c =
     let e = c .before .before in
     let o = e .before .before .before in
     let a = o .before .before .before .args in
-    let gone : a .stamp + 2 ^ a .s .k < a .clock = omega (arith, c .before .power .ensures, c .if4 .taken) in
-    told-judgement _ _ _ (told o ∙ rw (e .before .before .if1 .left, e .before .if2 .left, le-ltb (a .clock) (a .stamp) (e .if3 .left), lt-ltb (a .stamp + 2 ^ a .s .k) (a .clock) gone))
+    let gone : a .stamp + 2 ^ a .s .k ≤ a .clock = omega (arith, c .before .power .ensures, c .if4 .taken) in
+    told-judgement _ _ _ (told o ∙ rw (e .before .before .if1 .left, e .before .if2 .left, le-ltb (a .clock) (a .stamp) (e .if3 .left), le-leb (a .stamp + 2 ^ a .s .k) (a .clock) gone))
 
 judge-room-requires : tie.Need-judge-room-requires
 judge-room-requires c κs =

@@ -112,12 +112,16 @@ table =
     (levelIs 0 (levelOf 1 (bucketOf 1 1 1 ∷ bucketOf 3 1 1 ∷ []))
     ∷ levelIs 1 (levelOf 0 (bucketOf 0 2 3 ∷ bucketOf 2 2 2 ∷ []))
     ∷ answers (q 2) (accepted (1 ∷ []))
+    ∷ exactly (q 2) (accepted (1 ∷ []))
     ∷ servedFrom 2 0
     ∷ answers (q 3) (accepted (2 ∷ []))
+    ∷ exactly (q 3) (accepted (2 ∷ []))
     ∷ servedFrom 3 0
-    -- the window that exceeds the clock opens at 0
+    -- window 4 exceeds the clock and opens at 0
     ∷ answers (q 4) (accepted (5 ∷ []))
+    ∷ exactly (q 4) (accepted (5 ∷ []))
     ∷ servedFrom 4 1
+    ∷ answers (q 5) (refused 5)
     -- window 0
     ∷ answers (q 0) (accepted (0 ∷ []))
     ∷ exactly (q 0) (accepted (0 ∷ []))
@@ -127,7 +131,11 @@ table =
     ∷ example p₆
     (levelIs 1 (levelOf 1 (bucketOf 1 1 2 ∷ bucketOf 2 2 2 ∷ []))
     ∷ answers (q 3) (accepted (3 ∷ []))
+    ∷ exactly (q 3) (accepted (3 ∷ []))
     ∷ servedFrom 3 0
+    ∷ answers (q 4) (accepted (6 ∷ []))
+    ∷ exactly (q 4) (accepted (6 ∷ []))
+    ∷ servedFrom 4 2
     ∷ [])
     -- P7, with the ledger's sum, and P9 at each stamp
     ∷ example p₇
@@ -139,6 +147,11 @@ table =
     ∷ answers (q 3) (accepted (4 ∷ []))
     ∷ exactly (q 3) (accepted (5 ∷ []))
     ∷ servedFrom 3 2
+    ∷ answers (q 4) (accepted (8 ∷ []))
+    ∷ exactly (q 4) (accepted (8 ∷ []))
+    ∷ servedFrom 4 2
+    ∷ answers (q 0) (accepted (0 ∷ []))
+    ∷ exactly (q 0) (accepted (0 ∷ []))
     ∷ answers (d 0 8) (accepted [])
     ∷ answers (d 1 8) (accepted [])
     ∷ answers (d 2 8) (accepted [])
@@ -163,12 +176,16 @@ table =
     ∷ answers (d 8 9) (accepted [])
     ∷ exactly (d 8 9) (accepted [])
     ∷ [])
-    -- windows 1 and 2 at the first tick of the next interval
-    ∷ example (p₇ ++ Clock 4 ∷ d 4 1 ∷ [])
-    (answers (q 1) (accepted (1 ∷ []))
-    ∷ exactly (q 1) (accepted (1 ∷ []))
-    ∷ answers (q 2) (accepted (2 ∷ []))
-    ∷ exactly (q 2) (accepted (2 ∷ []))
+    -- window 4 at the first tick of an interval, which opens in the one before, and at the last, which does not
+    ∷ example (p₇ ++ Clock 4 ∷ [])
+    (answers (q 4) (accepted (4 ∷ []))
+    ∷ exactly (q 4) (accepted (5 ∷ []))
+    ∷ servedFrom 4 2
+    ∷ [])
+    ∷ example (p₇ ++ Clock 7 ∷ [])
+    (answers (q 4) (accepted (0 ∷ []))
+    ∷ exactly (q 4) (accepted (0 ∷ []))
+    ∷ servedFrom 4 0
     ∷ [])
     -- a refused delivery leaves the level, and the ledger's sum, as they were
     ∷ example (p₇ ++ d 0 9 ∷ [])
@@ -184,11 +201,11 @@ table-holds = (
   (
     (refl, tt),
     (
-      (refl, (refl, (refl, ((refl, refl), (refl, ((refl, refl), (refl, ((refl, refl), (refl, (refl, (refl, tt))))))))))),
+      (refl, (refl, (refl, (refl, ((refl, refl), (refl, (refl, ((refl, refl), (refl, (refl, ((refl, refl), (refl, (refl, (refl, (refl, tt))))))))))))))),
       (
-        (refl, (refl, ((refl, refl), tt))),
+        (refl, (refl, (refl, ((refl, refl), (refl, (refl, ((refl, refl), tt))))))),
         (
-          (refl, (refl, (refl, ((refl, refl), (refl, (refl, ((refl, refl), (refl, (refl, (refl, (refl, (refl, (refl, (refl, (refl, tt))))))))))))))),
+          (refl, (refl, (refl, ((refl, refl), (refl, (refl, ((refl, refl), (refl, (refl, ((refl, refl), (refl, (refl, (refl, (refl, (refl, (refl, (refl, (refl, (refl, (refl, tt)))))))))))))))))))),
           (
             (refl, tt),
             (
@@ -198,10 +215,13 @@ table-holds = (
                 (
                   (refl, (refl, (refl, (refl, (refl, (refl, tt)))))),
                   (
-                    (refl, (refl, (refl, (refl, tt)))),
+                    (refl, (refl, ((refl, refl), tt))),
                     (
-                      (refl, (refl, tt)),
-                      tt,
+                      (refl, (refl, ((refl, refl), tt))),
+                      (
+                        (refl, (refl, tt)),
+                        tt,
+                      ),
                     ),
                   ),
                 ),

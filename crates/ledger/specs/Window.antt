@@ -14,7 +14,7 @@ use Rattle.model.specs.Block.{interval, offsetOf, opening, answer, windowSum, s
 use Rattle.model.specs.BlockLaws.{covers-none, windowSum-none, windowSum-some}
 use Rattle.model.specs.Ledger.{Entry, Ledger, volumeOf, ofInterval, ofWindow}
 use Rattle.model.specs.Claim.{Each, Admits}
-use Rattle.laws.specs.Cond.{lt-or-ge, eq-or-ne}
+use Rattle.laws.specs.Cond.{lt-or-ge, eq-or-ne, and-false}
 use Rattle.theory.specs.Fed.{counted}
 use Rattle.theory.specs.Relative.{relative, admits-more}
 use Rattle.ledger.specs.Time.{offset-lt, interval-mono, interval-lt, interval-near, offset-le, tick-le}
@@ -57,11 +57,7 @@ volumeOf-sum p q r (e ∷ es) h = omega (arith, h .0, volumeOf-sum p q r es (h .
 -- no entry is in window 0
 window-none : (clock : ℕ) (p : Entry → Bool) (es : List Entry) → volumeOf (ofWindow clock p 0) es ≡ 0
 window-none clock p [] = refl
-window-none clock p (e ∷ es) = rw (covers-none clock (e .stamp), window-none clock p es) (none (p e))
-  where
-    none : (g : Bool) → _≡_ {A = ℕ} (cond (g && false) (e .volume) 0 + 0) 0
-    none true = refl
-    none false = refl
+window-none clock p (e ∷ es) = rw (and-false (p e) (covers-none clock (e .stamp)), window-none clock p es)
 
 module _ (s : Shape) (clock : ℕ) (p : Entry → Bool) (window : ℕ) where
   abbrev start : ℕ

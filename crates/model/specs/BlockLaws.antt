@@ -1,7 +1,7 @@
 -- What a window covers and what is late, in the words of request One; the sum of a window by its two cases; which halves the clock empties,
 -- by how many intervals it goes on. Assumes nothing.
 use mathlib.Core.Bool.{Bool, true, false, _&&_, _||_}
-use mathlib.Core.Path.{_≡_, refl, sym}
+use mathlib.Core.Path.{_≡_, refl}
 use Prim.Native.Nat.{ℕ, _+_, _-_, _%_, _^_, _≤_, _<_}
 use native.Mathlib.Nat.{le-refl}
 use native.Mathlib.Omega.{arith}
@@ -43,16 +43,17 @@ covers-none clock stamp = go (leb (opening clock 0) stamp) refl
     go true h = lt-leb stamp clock (omega (arith, leb-true (opening clock 0) stamp h))
     go false h = refl
 
-none : (t : Bool) → (t && false) ≡ false
-none true = refl
-none false = refl
-
--- windows read end to end, the earlier one at the clock less the later one: no stamp stands in both, and together they are one window
+-- windows read end to end, the earlier one at the clock less the later one: no stamp lies in both, and together they are one window
 module _ (clock window earlier stamp : ℕ) (h : window ≤ clock) where
+  ends-before : opening clock window ≤ stamp → covers (clock - window) earlier stamp ≡ false
+  ends-before above = go (leb (opening (clock - window) earlier) stamp)
+    where
+      go : (t : Bool) → (t && leb stamp (clock - window)) ≡ false
+      go true = lt-leb stamp (clock - window) (omega arith)
+      go false = refl
+
   pub covers-once : covers clock window stamp ≡ true → covers (clock - window) earlier stamp ≡ false
-  covers-once here =
-      let above : opening clock window ≤ stamp = leb-true (opening clock window) stamp (both here .0) in
-      rw (lt-leb stamp (clock - window) (omega arith)) (none (leb (opening (clock - window) earlier) stamp))
+  covers-once here = ends-before (leb-true (opening clock window) stamp (both here .0))
 
   pub covers-joined : covers clock (window + earlier) stamp ≡ (covers clock window stamp || covers (clock - window) earlier stamp)
   covers-joined = go (leb (opening clock window) stamp) refl
@@ -60,15 +61,14 @@ module _ (clock window earlier stamp : ℕ) (h : window ≤ clock) where
       same : opening clock (window + earlier) ≡ opening (clock - window) earlier
       same = omega arith
 
-      later : (t u : Bool) → u ≡ false → t ≡ (t || u)
-      later true u e = refl
-      later false u e = sym e
+      alone : (t : Bool) → t ≡ (t || false)
+      alone true = refl
+      alone false = refl
 
       go : (t : Bool) → leb (opening clock window) stamp ≡ t → covers clock (window + earlier) stamp ≡ ((t && leb stamp clock) || covers (clock - window) earlier stamp)
       go true e =
           let above : opening clock window ≤ stamp = leb-true (opening clock window) stamp e in
-          rw (le-leb (opening clock (window + earlier)) stamp (omega arith), lt-leb stamp (clock - window) (omega arith))
-          (later (leb stamp clock) (leb (opening (clock - window) earlier) stamp && false) (none (leb (opening (clock - window) earlier) stamp)))
+          rw (le-leb (opening clock (window + earlier)) stamp (omega arith), ends-before above) (alone (leb stamp clock))
       go false e =
           let below : stamp < opening clock window = leb-false (opening clock window) stamp e in
           rw (same, le-leb stamp clock (omega arith), le-leb stamp (clock - window) (omega arith))

@@ -15,7 +15,7 @@ pub enum Refusal {
     Limit, // The new clock is above its limit.
     Head, // The head is unsound.
     Ahead, // The stamp is ahead of the clock.
-    Late, // The stamp is more than an interval behind the clock.
+    Late, // The stamp is an interval or more behind the clock.
     Back, // The new clock is below the clock.
     Block, // A block is unsound.
     Full, // The interval has no room for the volume.

@@ -25,7 +25,7 @@ use Rattle.ledger.specs.Book.{blockFor}
 use Rattle.ledger.specs.State.{Good, wordsOf, words-shape, words-clock}
 use Rattle.ledger.specs.Agree.{agree}
 use Rattle.ledger.specs.Next.{made-words, made-good, block-is, clocked-words, clocked-good, delivered-words, delivered-good}
-use Rattle.ledger.specs.Window.{answer-admits}
+use Rattle.ledger.specs.Window.{sum-admits}
 
 -- what a call leads to: the ledger afterwards, whose words are then the book's; within a span k stays and the clock does not fall
 pub record Next (l : Ledger) (call : Call) : Type 0 where
@@ -166,7 +166,7 @@ module _ (l : Ledger) (good : Good l) where
 
   query-bound : (grade window : ℕ) → Bound (turn (Query grade window))
   query-bound grade window number room =
-      query-relates grade window (Admits (s .n) (s .k)) number (λ _. answer-admits l good (ofGrade grade) (good .few grade) room window)
+      query-relates grade window (Admits (s .n) (s .k)) number (λ _. sum-admits l good (ofGrade grade) (good .few grade) room window)
 
   turn-bound : (call : Call) → Bound (turn call)
   turn-bound (Make k′ n′ m′ g′) = tt

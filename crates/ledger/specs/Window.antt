@@ -203,10 +203,10 @@ module _ (l : Ledger) (good : Good l) where
     small : (j : ℕ) → counted (events s (ofInterval s p j) es) 0 < s .n * 2 ^ s .last
     small j = omega (arith, counted-all s (ofInterval s p j) es, few j, good .reach)
 
-    pub answer-admits : s .k + 1 < s .n → (window : ℕ) → window ≤ 2 ^ s .k
+    pub sum-admits : s .k + 1 < s .n → (window : ℕ) → window ≤ 2 ^ s .k
         → Admits (s .n) (s .k) (windowSum s clock window (blockFor s clock es p)) (volumeOf (ofWindow clock p window) es)
     unfolding halfFed
-    answer-admits room window w =
+    sum-admits room window w =
         let j : ℕ = interval s (opening clock window) in
         let a : ℕ = offsetOf s (opening clock window) in
         let q : Entry → Bool = ofInterval s p j in

@@ -27,7 +27,7 @@ interval s t = t / 2 ^ s .k
 abbrev pub offsetOf : Shape → ℕ → ℕ  -- SPECIFICATION 2.3: its offset there
 offsetOf s t = t % 2 ^ s .k
 
-abbrev pub opening : ℕ → ℕ → ℕ  -- SPECIFICATION 5.5: the first stamp above clock - window, at which the window opens; `-` gives 0 where the window exceeds the clock
+abbrev pub opening : ℕ → ℕ → ℕ  -- SPECIFICATION 5.5: the stamp at which a window above 0 opens; `-` gives 0 where the window exceeds the clock
 opening clock window = clock + 1 - window
 
 abbrev pub covers : ℕ → ℕ → ℕ → Bool  -- SPECIFICATION 5.5: the stamps of a window run from its opening to the clock, both included; window 0 has none

@@ -1,5 +1,5 @@
--- What a window covers and what is late, in the words of request One; the sum of a window by its two cases; which halves the clock empties,
--- by how many intervals it goes on. Assumes nothing.
+-- What a window covers, where it opens and what is late, each said in another way; the sum of a window by its two cases; which halves the
+-- clock empties, by how many intervals it goes on. Assumes nothing.
 use mathlib.Core.Bool.{Bool, true, false, _&&_, _||_}
 use mathlib.Core.Path.{_≡_, refl}
 use Prim.Native.Nat.{ℕ, _+_, _-_, _%_, _^_, _≤_, _<_}
@@ -14,7 +14,7 @@ use Rattle.model.specs.Block.{Block, opening, covers, late, answer, wind
 -- ---- windows
 
 module _ (clock window : ℕ) where
-  -- a window covers the stamps above clock - window, up to the clock
+  -- a window covers exactly the stamps with stamp ≤ clock < stamp + window
   pub covers-above : (stamp : ℕ) → covers clock window stamp ≡ (ltb clock (stamp + window) && leb stamp clock)
   covers-above stamp = go (ltb clock (stamp + window)) refl
     where
@@ -22,7 +22,7 @@ module _ (clock window : ℕ) where
       go true h = rw (le-leb (opening clock window) stamp (omega (arith, ltb-true clock (stamp + window) h)))
       go false h = rw (lt-leb (opening clock window) stamp (omega (arith, ltb-false clock (stamp + window) h)))
 
-  -- where it exceeds the clock, these are all stamps from 0
+  -- a window that exceeds the clock opens at 0
   pub opening-zero : clock < window → opening clock window ≡ 0
   opening-zero h = omega arith
 
@@ -43,7 +43,7 @@ covers-none clock stamp = go (leb (opening clock 0) stamp) refl
     go true h = lt-leb stamp clock (omega (arith, leb-true (opening clock 0) stamp h))
     go false h = refl
 
--- windows read end to end, the earlier one at the clock less the later one: no stamp lies in both, and together they are one window
+-- windows read end to end, the earlier one `window` ticks before the later one: no stamp lies in both, and together they are one window
 module _ (clock window earlier stamp : ℕ) (h : window ≤ clock) where
   ends-before : opening clock window ≤ stamp → covers (clock - window) earlier stamp ≡ false
   ends-before above = go (leb (opening (clock - window) earlier) stamp)

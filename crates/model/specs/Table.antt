@@ -4,7 +4,7 @@ use mathlib.Core.Path.{_≡_, refl}
 use mathlib.Core.List.{List, [], _∷_, _++_}
 use Prim.Native.Nat.{ℕ}
 use lib.Dec.{ltb}
-use lib.ListN.{getD, replicate, take}
+use lib.ListN.{getD, set, replicate, take}
 use Rattle.shape.specs.declared.Shape.{Shape}
 use Rattle.shape.specs.Limits.{Reply, accepted, refused, within, shaped}
 use Rattle.model.specs.declared.Call.{Call}
@@ -32,6 +32,8 @@ pub data Fact : Type 0 where
   -- what the book and the ledger reply to the next call
   answers : Call → Reply → Fact
   exactly : Call → Reply → Fact
+  -- what the book replies once word j is changed
+  spoilt : ℕ → ℕ → Call → Reply → Fact
   -- the level that serves a window
   servedFrom : ℕ → ℕ → Fact
 
@@ -44,6 +46,7 @@ abbrev pub Holds : List ℕ → Ledger → Fact → Type 0
 Holds ws l (levelIs i it) = getD (blockAt ws 0 .even .levels) i (levelOf 0 []) ≡ it
 Holds ws l (answers call reply) = perform ws call .reply ≡ reply
 Holds ws l (exactly call reply) = enter exampleWords l call .reply ≡ reply
+Holds ws l (spoilt j word call reply) = perform (set ws j word) call .reply ≡ reply
 Holds ws l (servedFrom window i) =
     let s = shapeOf ws in
     let start = opening (clockOf ws) window in
@@ -122,10 +125,12 @@ table =
     ∷ exactly (q 4) (accepted (5 ∷ []))
     ∷ servedFrom 4 1
     ∷ answers (q 5) (refused 5)
-    -- window 0
+    -- window 0, also of a grade that is not there, with a total that is not its levels', and with a seventh head word that is not zero
     ∷ answers (q 0) (accepted (0 ∷ []))
     ∷ exactly (q 0) (accepted (0 ∷ []))
     ∷ answers (Query 1 0) (refused 3)
+    ∷ spoilt 8 6 (q 0) (refused 11)
+    ∷ spoilt 6 1 (q 0) (refused 7)
     ∷ [])
     -- P6
     ∷ example p₆
@@ -136,6 +141,9 @@ table =
     ∷ answers (q 4) (accepted (6 ∷ []))
     ∷ exactly (q 4) (accepted (6 ∷ []))
     ∷ servedFrom 4 2
+    ∷ answers (q 5) (refused 5)
+    ∷ answers (q 0) (accepted (0 ∷ []))
+    ∷ exactly (q 0) (accepted (0 ∷ []))
     ∷ [])
     -- P7, with the ledger's sum, and P9 at each stamp
     ∷ example p₇
@@ -150,6 +158,7 @@ table =
     ∷ answers (q 4) (accepted (8 ∷ []))
     ∷ exactly (q 4) (accepted (8 ∷ []))
     ∷ servedFrom 4 2
+    ∷ answers (q 5) (refused 5)
     ∷ answers (q 0) (accepted (0 ∷ []))
     ∷ exactly (q 0) (accepted (0 ∷ []))
     ∷ answers (d 0 8) (accepted [])
@@ -176,12 +185,13 @@ table =
     ∷ answers (d 8 9) (accepted [])
     ∷ exactly (d 8 9) (accepted [])
     ∷ [])
-    -- window 4 at the first tick of an interval, which opens in the one before, and at the last, which does not
+    -- at the first tick of an interval window 4 opens in the one before
     ∷ example (p₇ ++ Clock 4 ∷ [])
     (answers (q 4) (accepted (4 ∷ []))
     ∷ exactly (q 4) (accepted (5 ∷ []))
     ∷ servedFrom 4 2
     ∷ [])
+    -- at the last tick it opens at the interval's first
     ∷ example (p₇ ++ Clock 7 ∷ [])
     (answers (q 4) (accepted (0 ∷ []))
     ∷ exactly (q 4) (accepted (0 ∷ []))
@@ -201,11 +211,11 @@ table-holds = (
   (
     (refl, tt),
     (
-      (refl, (refl, (refl, (refl, ((refl, refl), (refl, (refl, ((refl, refl), (refl, (refl, ((refl, refl), (refl, (refl, (refl, (refl, tt))))))))))))))),
+      (refl, (refl, (refl, (refl, ((refl, refl), (refl, (refl, ((refl, refl), (refl, (refl, ((refl, refl), (refl, (refl, (refl, (refl, (refl, (refl, tt))))))))))))))))),
       (
-        (refl, (refl, (refl, ((refl, refl), (refl, (refl, ((refl, refl), tt))))))),
+        (refl, (refl, (refl, ((refl, refl), (refl, (refl, ((refl, refl), (refl, (refl, (refl, tt)))))))))),
         (
-          (refl, (refl, (refl, ((refl, refl), (refl, (refl, ((refl, refl), (refl, (refl, ((refl, refl), (refl, (refl, (refl, (refl, (refl, (refl, (refl, (refl, (refl, (refl, tt)))))))))))))))))))),
+          (refl, (refl, (refl, ((refl, refl), (refl, (refl, ((refl, refl), (refl, (refl, ((refl, refl), (refl, (refl, (refl, (refl, (refl, (refl, (refl, (refl, (refl, (refl, (refl, tt))))))))))))))))))))),
           (
             (refl, tt),
             (

@@ -36,6 +36,13 @@ power-requires c κs =
     let d = c .before .before in
     omega (arith, open-proper (d .args .book .now) (d .args .s) (d .args .clock) (d .pre) .limits .high-k)
 
+-- the question is accepted only if no test holds
+returns-4 : tie.Need-returns-4
+returns-4 c =
+    let d = c .before .before .before .before .before .before .before in
+    told-judgement _ _ _ (asked (c .before) ∙ passed _ _ (c .before .before .before .if1 .left) ∙ passed _ _ (c .before .before .if2 .left) ∙ passed _ _ (c .if3 .left), d .pre .same, d .pre .now)
+
+-- each refusal is the first whose test holds
 returns : tie.Need-returns
 returns c = told-judgement _ _ _ (told (c .before) ∙ holds _ _ (c .if1 .taken))
 
@@ -50,11 +57,6 @@ block-sound-requires c κs =
 
 returns-3 : tie.Need-returns-3
 returns-3 c = told-judgement _ _ _ (asked (c .before) ∙ passed _ _ (c .before .before .before .if1 .left) ∙ passed _ _ (c .before .before .if2 .left) ∙ holds _ _ (c .if3 .taken))
-
-returns-4 : tie.Need-returns-4
-returns-4 c =
-    let d = c .before .before .before .before .before .before .before in
-    told-judgement _ _ _ (asked (c .before) ∙ passed _ _ (c .before .before .before .if1 .left) ∙ passed _ _ (c .before .before .if2 .left) ∙ passed _ _ (c .if3 .left), d .pre .same, d .pre .now)
 
 pub judge-query-in-spec : {M : Type 1} → statement M
 judge-query-in-spec = tie.close (tie.spec cast-grades power-requires returns returns-2 block-sound-requires returns-3 returns-4)

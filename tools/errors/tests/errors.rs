@@ -34,12 +34,12 @@ fn relative_errors() {
 }
 
 #[test]
-fn windows_are_allowed() {
+fn windows_are_allowed_and_open_at_the_given_ticks() {
     let mut random = Random::new(1);
     let clock = TICKS + 5;
     let windows = windows(&mut random, clock, &[0, 7, TICKS, clock]);
     assert!(windows.iter().all(|window| *window <= TICKS));
-    for expected in [0, 1, 5, TICKS] {
+    for expected in [0, 1, 5, 6, TICKS - 2, TICKS - 1, TICKS] {
         assert!(windows.contains(&expected), "{expected}");
     }
 }
@@ -80,7 +80,7 @@ fn refused_steps_are_reported() {
     let order = Order {
         name: "late",
         kind: Kind::Pattern,
-        books: vec![vec![Step::Clock(TICKS + 1), late]],
+        books: vec![vec![Step::Clock(TICKS), late]],
     };
     let trouble = observe(&order).err().expect("a refusal");
     assert!(trouble.contains("Err(9)"), "{trouble}");

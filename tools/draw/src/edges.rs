@@ -3,7 +3,7 @@
 
 use std::ops::RangeInclusive;
 
-use reference::calls::{Answer, Call, Reply};
+use reference::calls::{self, Answer, Call, Reply};
 use reference::ledger::Ledger;
 use reference::refusal;
 use reference::shape::Shape;
@@ -94,18 +94,9 @@ fn by_neighbours(kinds: Vec<String>, window: u32, differs: impl Fn(u32) -> bool)
 
 /// The sum of a sound book for a window that opens here; 0 where it opens nowhere.
 pub fn sum_from(book: &[u32], grade: u32, opening: Option<u64>) -> u64 {
-    let Some(opening) = opening else {
-        return 0;
-    };
     let (shape, clock) = sound_head(decode_head(book)).expect("a sound book");
-    let clock = u64::from(clock);
     let block = decode_block(shape, &book[shape.block(grade)]).map(|raw| raw.histogram());
-    let sum = block[shape.parity(opening)].sum_from(shape.offset(opening));
-    if shape.interval(opening) == shape.interval(clock) {
-        sum
-    } else {
-        sum + block[shape.parity(clock)].total
-    }
+    opening.map_or(0, |opening| calls::sum_from(shape, clock, opening, &block))
 }
 
 /// All kinds that there are: those that a book of the example's shape, which is small enough to try

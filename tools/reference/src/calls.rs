@@ -131,15 +131,18 @@ pub fn query(words: &[u32], grade: u32, window: u32) -> Result<u64, u32> {
     let too_long = u64::from(window) > shape.interval_ticks();
     when(too_long, refusal::WINDOW)?;
     let block = sound_block(shape, words, grade)?;
-    let Some(opening) = opening(clock, window) else {
-        return Ok(0);
-    };
+    let opening = opening(clock, window);
+    Ok(opening.map_or(0, |opening| sum_from(shape, clock, opening, &block)))
+}
+
+/// The sum of a window that opens at this tick, in the current interval or in the one before.
+pub fn sum_from(shape: Shape, clock: u32, opening: u64, block: &[Histogram; 2]) -> u64 {
     let clock = u64::from(clock);
     let sum = block[shape.parity(opening)].sum_from(shape.offset(opening));
     if shape.interval(opening) == shape.interval(clock) {
-        Ok(sum)
+        sum
     } else {
-        Ok(sum + block[shape.parity(clock)].total)
+        sum + block[shape.parity(clock)].total
     }
 }
 

@@ -46,12 +46,13 @@
 
 /*
  * The version of this header and of the archive that goes with it. As long as MAJOR is 0, MINOR
- * rises with each change that a caller has to follow, such as another layout of the book.
+ * rises with each change that a caller has to follow, such as another layout of the book or other
+ * stamps in a window.
  */
 #define LITRES_VERSION_MAJOR 0
-#define LITRES_VERSION_MINOR 1
+#define LITRES_VERSION_MINOR 2
 #define LITRES_VERSION_PATCH 0
-#define LITRES_VERSION "0.1.0"
+#define LITRES_VERSION "0.2.0"
 
 /* Each refusal as X(number, name, text), for a program that makes a table of its own from them. */
 #define LITRES_REFUSALS(X)                                                                        \
@@ -89,25 +90,27 @@ size_t litres_words(uint32_t k, uint32_t n, uint32_t m, uint32_t g);
 uint32_t litres_make(uint32_t *book, size_t len, uint32_t k, uint32_t n, uint32_t m, uint32_t g);
 
 /*
- * Sets a later or equal clock. Intervals that no window reaches any more are emptied, in every
- * grade. Every grade's words are inspected.
+ * Sets a later or equal clock. Where it enters another interval, all but that one and the one
+ * before it are emptied, in every grade. Every grade's words are inspected.
  * Refused, in this order: 2 (under 8 words), 7, 2, 6, 10, 11.
  */
 uint32_t litres_clock(uint32_t *book, size_t len, uint32_t clock);
 
 /*
- * Records `volume` decilitres of a grade at tick `stamp`, which may lie up to 2^k ticks behind the
- * clock. Deliveries may come in any order. Of the grades' words only this one's are inspected or
- * changed.
+ * Records `volume` decilitres of a grade at tick `stamp`, which is at most 2^k - 1 ticks behind the
+ * clock: an older stamp is late, since no window covers it any more. Deliveries may come in any
+ * order. Of the grades' words only this one's are inspected or changed.
  * Refused, in this order: 2 (under 8 words), 7, 2, 3, 4, 8, 9, 11, 12.
  */
 uint32_t litres_delivery(uint32_t *book, size_t len, uint32_t grade, uint32_t stamp,
                          uint32_t volume);
 
 /*
- * Writes to *sum the book's sum for a grade, in decilitres, of the stamps from clock - window to
- * clock, both included, or from 0 if the window exceeds the clock. How exact it is stands above. No
- * word of the book changes. Of the grades' words only this one's are inspected.
+ * Writes to *sum the book's sum for a grade, in decilitres, over the last `window` ticks: the
+ * stamps above clock - window up to the clock, or all from 0 if the window exceeds the clock.
+ * Windows that lie end to end have no stamp in common. Window 0 has no stamp and gives 0. How exact
+ * a sum is stands above. No word of the book changes. Of the grades' words only this one's are
+ * inspected.
  * `sum` must point to a uint64_t that may be written and that lies outside the book. A refused call
  * does not write it.
  * Refused, in this order: 2 (under 8 words), 7, 2, 3, 5, 11.

@@ -7,7 +7,7 @@ use draw::calls::Source;
 use draw::pace::Pace;
 use draw::random::Random;
 use draw::shapes::Makes;
-use draw::view::Words;
+use draw::view::{View, Words};
 use reference::calls::{Call, Reply};
 use reference::shape::Shape;
 
@@ -93,10 +93,12 @@ fn trial(
             Kind::Grown if number + 8 < calls => growing,
             _ => probing,
         };
-        let call = source.call(&Words::new(shape, &pair.words()[..words.len()]));
+        let before = Words::new(shape, &pair.words()[..words.len()]);
+        let (current, clock) = (before.shape(), before.clock());
+        let call = source.call(&before);
         let lent = lent(&mut source.random, call, words.len(), TAIL);
         match pair.perform(&implementation, lent, call) {
-            Ok(reply) => summary.add_reply(reply),
+            Ok(reply) => summary.add_reply(current, clock, call, reply),
             Err(difference) => {
                 return Err(Box::new(Failure {
                     seed,

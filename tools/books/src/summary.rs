@@ -4,12 +4,17 @@ use std::fmt::{self, Display, Formatter};
 
 use draw::book::Kind;
 use draw::damage::KINDS;
+use draw::edges;
 use draw::tally::Tally;
-use reference::calls::Reply;
+use reference::calls::{Call, Reply};
+use reference::shape::Shape;
 use reference::{protocol, refusal};
 
 /// A run of so many books must show every kind of book, of damage and of answer.
 pub const BOOKS_FOR_ALL: u64 = 2_000;
+
+/// A run of so many calls at edges must show every kind of them.
+pub const EDGES_FOR_ALL: u64 = 8_000;
 
 /// Counts of a run.
 #[derive(Clone, Debug, PartialEq, Eq)]
@@ -17,6 +22,7 @@ pub struct Summary {
     books: Tally,
     damage: Tally,
     answers: Tally,
+    edges: Tally,
 }
 
 impl Summary {
@@ -27,6 +33,7 @@ impl Summary {
             // Half of the books are damaged, and each gets several calls.
             damage: Tally::new(KINDS.map(|(name, _)| name), BOOKS_FOR_ALL / 2),
             answers: Tally::of_answers(refusal::ALL, &[], 4 * BOOKS_FOR_ALL),
+            edges: Tally::new(edges::all(), EDGES_FOR_ALL),
         }
     }
 
@@ -42,14 +49,22 @@ impl Summary {
         }
     }
 
-    /// Counts an answer on which both sides agree.
-    pub fn add_reply(&mut self, reply: Reply) {
+    /// Counts an answer on which both sides agree, to a call on a book of this shape at this clock.
+    pub fn add_reply(&mut self, shape: Shape, clock: u32, call: Call, reply: Reply) {
         self.answers.add_answer(&protocol::answer(reply));
+        for kind in edges::kinds(shape, clock, call, reply) {
+            self.edges.add(&kind);
+        }
     }
 
     /// All books.
     pub fn books(&self) -> u64 {
         self.books.total()
+    }
+
+    /// How often each kind of call at an edge was made.
+    pub fn edges(&self) -> &Tally {
+        &self.edges
     }
 
     /// All calls.
@@ -59,7 +74,7 @@ impl Summary {
 
     /// What never occurred in a run that is long enough for it.
     pub fn faults(&self) -> Vec<String> {
-        let tallies = [&self.books, &self.damage, &self.answers];
+        let tallies = [&self.books, &self.damage, &self.answers, &self.edges];
         tallies.into_iter().flat_map(Tally::faults).collect()
     }
 }
@@ -74,6 +89,7 @@ impl Display for Summary {
     fn fmt(&self, f: &mut Formatter<'_>) -> fmt::Result {
         let (books, calls) = (self.books(), self.calls());
         write!(f, "{books} books ({}), {calls} calls, ", self.books)?;
-        write!(f, "all equal; {}", self.answers)
+        write!(f, "all equal; {}", self.answers)?;
+        write!(f, "; at edges of windows: {}", self.edges.total())
     }
 }

@@ -6,6 +6,7 @@ use reference::calls::{perform, Answer, Call, Reply};
 use reference::histogram::{Bucket, Histogram, Level};
 use reference::layout;
 use reference::shape::Shape;
+use reference::window::opening;
 use reference::words::{decode_block, decode_head, encode_block};
 use wrong::{assert_equal, difference};
 
@@ -112,7 +113,9 @@ fn answering(sum_from: impl Fn(&Histogram, u64) -> u64) -> impl Fn(&mut [u32], C
             return Ok(reply);
         };
         let (shape, clock) = (shape_of(book), book[layout::CLOCK]);
-        let opening = u64::from(clock.saturating_sub(window));
+        let Some(opening) = opening(clock, window) else {
+            return Ok(Answer::Sum(0));
+        };
         let block = halves(book, grade);
         let mut sum = sum_from(&block[shape.parity(opening)], shape.offset(opening));
         if shape.interval(opening) != shape.interval(clock.into()) {

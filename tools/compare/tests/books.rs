@@ -5,8 +5,11 @@ mod replay;
 use std::collections::BTreeMap;
 
 use compare::command::Options;
+use draw::edges;
+use draw::tally::Tally;
 use reference::calls::{Answer, Call};
 use reference::shape::Shape;
+use reference::window::{opening, window_from};
 
 use replay::{replay, Step};
 
@@ -27,11 +30,11 @@ fn clock_cases(step: &Step, clock: u32) -> Cases {
 }
 
 fn delivery_cases(step: &Step, [grade, stamp, volume]: [u32; 3]) -> Cases {
-    let (shape, now) = (step.shape(), u64::from(step.before.clock()));
+    let (shape, now) = (step.shape(), step.before.clock());
     let tick = u64::from(stamp);
     let half = step.half(grade, tick);
-    let older = shape.interval(tick) != shape.interval(now);
-    let oldest = tick + shape.interval_ticks() == now;
+    let older = shape.interval(tick) != shape.interval(now.into());
+    let oldest = window_from(now, stamp) == Some(1 << shape.k());
     let fills = half.total + u64::from(volume) == shape.capacity();
     let ignored = |level: usize| half.levels[level].first > shape.offset(tick);
     let full = half.levels[0].buckets.len() as u32 == shape.n();
@@ -51,7 +54,13 @@ fn delivery_cases(step: &Step, [grade, stamp, volume]: [u32; 3]) -> Cases {
 
 fn question_cases(step: &Step, [grade, window]: [u32; 2], sum: u64) -> Cases {
     let (shape, now) = (step.shape(), step.before.clock());
-    let opening = u64::from(now.saturating_sub(window));
+    let Some(opening) = opening(now, window) else {
+        return vec![("question: no tick", true)];
+    };
+    let at = |tick: Option<u64>| {
+        let mut entries = step.before.entries().iter();
+        entries.any(|e| e.grade == grade && Some(e.stamp.into()) == tick)
+    };
     let offset = shape.offset(opening);
     let older = shape.interval(opening) != shape.interval(now.into());
     let half = step.half(grade, opening);
@@ -67,6 +76,11 @@ fn question_cases(step: &Step, [grade, window]: [u32; 2], sum: u64) -> Cases {
         ("question: both halves", grown && older && sum > half.total),
         ("question: window above clock", grown && window > now),
         ("question: whole interval", grown && whole),
+        ("question: delivery at the opening", at(Some(opening))),
+        (
+            "question: delivery a tick before",
+            at(opening.checked_sub(1)),
+        ),
         ("question: level 0", grown && level == 0),
         ("question: level 1", level == 1),
         ("question: level 2", level == 2),
@@ -99,7 +113,10 @@ fn make_cases(step: &Step, new: Shape) -> Cases {
 }
 
 fn cases(step: &Step) -> Cases {
-    match (step.call, step.answer) {
+    let Ok(answer) = step.reply else {
+        return Vec::new();
+    };
+    match (step.call, answer) {
         (Call::Make { k, n, m, g }, _) => make_cases(step, Shape::new(k, n, m, g).unwrap()),
         (Call::Clock { clock }, _) => clock_cases(step, clock),
         (
@@ -138,4 +155,31 @@ fn usual_run_meets_every_case() {
     // Most lines are accepted deliveries and questions on grown books.
     let most = seen["delivery"] + seen["question: grown book"];
     assert!(most > usual.lines / 2, "{most}");
+}
+
+/// Each kind of call at an edge occurs often. Of the questions some would answer something else if
+/// their window were a tick shorter or longer, so that a program that is wrong for one kind is found.
+#[test]
+fn usual_run_meets_every_edge_and_tells_a_tick() {
+    let mut met = Tally::new(edges::all(), 1);
+    let mut telling = Tally::new(edges::all_telling(), 1);
+    for script in Options::usual("program".into()).plan() {
+        replay(&script, |step| {
+            let (shape, now) = (step.shape(), step.before.clock());
+            for kind in edges::kinds(shape, now, step.call, step.reply) {
+                met.add(&kind);
+            }
+            let book = &step.words[..shape.book_length()];
+            for kind in edges::telling(book, step.call, step.reply) {
+                telling.add(&kind);
+            }
+        });
+    }
+    println!("{met}\n{telling}");
+    for kind in edges::all() {
+        let count = met.count(&kind);
+        assert!(count >= 10, "{kind}: {count}");
+    }
+    assert_eq!(met.faults(), Vec::<String>::new());
+    assert_eq!(telling.faults(), Vec::<String>::new());
 }

@@ -6,7 +6,7 @@ use reference::layout::HEAD_WORDS;
 use reference::shape::Shape;
 use reference::words::{encode_block, encode_head};
 
-use crate::calls::{call_of, Source};
+use crate::calls::{beside, call_of, Source};
 use crate::pace::Pace;
 use crate::random::Random;
 use crate::shapes::{self, quick_volume, Makes};
@@ -81,7 +81,13 @@ fn grown(random: &mut Random, shape: Shape) -> Vec<u32> {
 /// What a make, a clock and many deliveries leave, encoded once.
 fn fed(random: &mut Random, shape: Shape) -> Vec<u32> {
     let mut words = vec![0; shape.book_length()];
-    let clock = random.between(0, 3 * shape.interval_ticks() as u32);
+    let ticks = shape.interval_ticks() as u32;
+    let clock = if random.one_in(3) {
+        let border = random.pick(&[ticks, 2 * ticks, 3 * ticks]);
+        beside(random, border)
+    } else {
+        random.between(0, 3 * ticks)
+    };
     encode_head(shape, clock, &mut words);
     let usual = 1 + random.below(quick_volume(shape).min(40));
     for grade in 0..shape.g() {
@@ -98,16 +104,15 @@ fn fed(random: &mut Random, shape: Shape) -> Vec<u32> {
     words
 }
 
-/// Half of the stamps come in bursts of a few hundred ticks.
+/// Not late; half of the stamps come in bursts of a few hundred ticks.
 fn stamp(random: &mut Random, shape: Shape, clock: u32) -> u64 {
-    let clock = u64::from(clock);
-    let reach = shape.interval_ticks().min(clock) + 1;
+    let reach = u64::from(clock - shape.oldest(clock)) + 1;
     let back = if random.one_in(2) {
         random.below(reach)
     } else {
         (reach / 3 + random.below(300)) % reach
     };
-    clock - back
+    u64::from(clock) - back
 }
 
 /// How many words a call is lent, of a book with `exact` and `more` after it: mostly those of the

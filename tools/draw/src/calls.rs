@@ -2,6 +2,7 @@
 
 use reference::calls::Call;
 use reference::shape::Shape;
+use reference::window::window_from;
 
 use crate::pace::Pace;
 use crate::random::Random;
@@ -77,7 +78,7 @@ impl Caller<'_> {
         match self.random.below(100) {
             0..=1 => self.refused_make(),
             2..=3 => self.refused(),
-            _ if self.now() == 0 && !self.random.one_in(3) => self.first_clock(),
+            _ if self.now() == 0 && self.random.one_in(3) => self.first_clock(),
             draw if draw < questions => self.question(),
             draw if draw < questions + self.pace.clocks => self.clock(),
             _ => self.delivery(),
@@ -116,9 +117,15 @@ impl Caller<'_> {
         self.start_of_interval().wrapping_add(self.ticks())
     }
 
+    /// Whether the clock stands at an interval's last tick or at one of its first two.
+    fn is_beside_border(&self) -> bool {
+        let inside = self.now() - self.start_of_interval();
+        inside <= 1 || inside == self.ticks() - 1
+    }
+
     /// The oldest stamp that is not late.
     fn oldest(&self) -> u32 {
-        self.now().saturating_sub(self.ticks())
+        self.shape().oldest(self.now())
     }
 
     /// Whether the next number is at an edge or beyond it.
@@ -131,6 +138,11 @@ impl Caller<'_> {
         // Clocks are few, so more of them are at an edge.
         let clock = if self.random.below(self.pace.edges.max(6)) < 3 {
             self.edge_clock()
+        } else if self.is_beside_border() && self.random.one_in(3) {
+            // Tick by tick from the end of an interval into the next.
+            self.now().wrapping_add(1)
+        } else if self.random.one_in(4 * self.pace.leap) {
+            self.next_interval().wrapping_sub(1)
         } else if self.random.one_in(4 * self.pace.leap) {
             self.leap()
         } else {
@@ -141,11 +153,20 @@ impl Caller<'_> {
         Call::Clock { clock }
     }
 
-    /// From the start of a book into its first intervals, so that stamps have room.
+    /// From the start of a book into its first intervals, so that stamps have room, often next to
+    /// the end of one.
     pub fn first_clock(&mut self) -> Call {
-        Call::Clock {
-            clock: self.random.between(1, 3 * self.ticks()),
-        }
+        let ticks = self.ticks();
+        let random = &mut *self.random;
+        let clock = match random.below(8) {
+            0 => 1,
+            1..=5 => {
+                let border = random.pick(&[ticks, ticks, ticks, 2 * ticks, 3 * ticks]);
+                beside(random, border)
+            }
+            _ => random.between(1, 3 * ticks),
+        };
+        Call::Clock { clock }
     }
 
     /// Stays, goes back, meets the ends of intervals, or comes near the limit or above it.
@@ -161,7 +182,8 @@ impl Caller<'_> {
                 let any = random.between(now, now.max(MAX));
                 random.pick(&[MAX, near.max(now), any])
             }
-            1 if goes_ahead => random.pick(&[now.wrapping_add(1), next.wrapping_sub(1), next]),
+            1 if goes_ahead && random.one_in(2) => now.wrapping_add(1),
+            1 if goes_ahead => beside(random, next),
             0..=3 => now,
             4..=5 => {
                 let back = random.between(1, ticks);
@@ -181,7 +203,7 @@ impl Caller<'_> {
         let (next, ticks) = (self.next_interval(), self.ticks());
         let random = &mut *self.random;
         let inside = random.between(0, ticks - 1);
-        let offset = random.pick(&[0, ticks - 1, inside, inside]);
+        let offset = random.pick(&[0, 1, ticks - 1, inside, inside]);
         let skipped = match random.below(20) {
             0..=10 => 0,
             11..=15 => 1,
@@ -220,7 +242,7 @@ impl Caller<'_> {
 
     /// Anywhere that is not late, often recent or where something stands already.
     fn stamp(&mut self) -> u32 {
-        if self.is_edge() {
+        if self.is_edge() || self.is_beside_border() && self.random.one_in(4) {
             return self.edge_stamp();
         }
         let (now, oldest) = (self.now(), self.oldest());
@@ -249,9 +271,9 @@ impl Caller<'_> {
         let (few, any) = (random.between(1, 3), random.word());
         match random.below(8) {
             0 => now.wrapping_add(few),
-            1 => oldest.saturating_sub(few),
-            2..=3 => random.pick(&[now, oldest, oldest.wrapping_add(1)]),
-            4..=5 => random.pick(&[start, start.saturating_sub(1), before, before.max(1) - 1]),
+            1..=2 => oldest.saturating_sub(random.pick(&[1, 1, few])),
+            3..=4 => random.pick(&[now, oldest, oldest, oldest.wrapping_add(1)]),
+            5 => random.pick(&[start, start.saturating_sub(1), before, before.max(1) - 1]),
             6 => random.pick(&[
                 u32::MAX,
                 u32::MAX - ticks,
@@ -305,7 +327,7 @@ impl Caller<'_> {
     fn floods(&mut self) -> bool {
         let rarity = match self.shape().m() {
             16 => 16,
-            17..=18 => 3,
+            17..=18 => 8,
             _ => return false,
         };
         let quick = quick_volume(self.shape()) * PATIENCE >= VOLUME_MAX;
@@ -323,24 +345,31 @@ impl Caller<'_> {
     /// Any window, often one that opens where something stands or a tick beside it.
     fn window(&mut self) -> u32 {
         let (now, ticks) = (self.now(), self.ticks());
-        if self.is_edge() || self.is_edge() {
-            let inside = now - self.start_of_interval();
-            let random = &mut *self.random;
-            return match random.below(6) {
-                0 => random.between(0, 3),
-                1 => random.pick(&[ticks, ticks, ticks - 1]),
-                2 => random.pick(&[inside, inside + 1, inside.max(1) - 1]),
-                3 => ticks + 1,
-                4 => random.pick(&[2 * ticks, 65_536, 1 << 31, u32::MAX, u32::MAX - ticks]),
-                _ => now,
-            };
+        // In the first interval a window can be the clock or exceed it.
+        let many_edges = self.is_beside_border() || now < ticks;
+        if self.is_edge() || self.is_edge() || many_edges && self.random.one_in(2) {
+            return self.edge_window();
         }
         let (near, any) = (self.near_landmark(), self.random.between(0, ticks));
-        let opens_near = now.wrapping_sub(near);
-        if self.random.one_in(3) && opens_near <= ticks {
-            opens_near
-        } else {
-            any
+        match window_from(now, near) {
+            Some(window) if window <= ticks && self.random.one_in(3) => window,
+            _ => any,
+        }
+    }
+
+    /// Of no tick or a few, about an interval long, opening about the start of the current interval
+    /// or of time, or too long.
+    fn edge_window(&mut self) -> u32 {
+        let (now, ticks) = (self.now(), self.ticks());
+        let inside = now - self.start_of_interval();
+        let random = &mut *self.random;
+        match random.below(8) {
+            0..=1 => random.pick(&[0, 0, 1, 1, 2, 3]),
+            2..=3 => random.pick(&[ticks, ticks, ticks - 1, ticks - 1, ticks - 2]),
+            4 => random.pick(&[inside, inside + 1, inside + 2]),
+            5 => random.pick(&[now, now.wrapping_add(1), now.wrapping_sub(1)]),
+            6 => ticks + 1,
+            _ => random.pick(&[2 * ticks, 65_536, 1 << 31, u32::MAX, u32::MAX - ticks]),
         }
     }
 
@@ -366,6 +395,11 @@ impl Caller<'_> {
             },
         }
     }
+}
+
+/// A tick or one of its neighbours.
+pub fn beside(random: &mut Random, tick: u32) -> u32 {
+    random.pick(&[tick.wrapping_sub(1), tick, tick.wrapping_add(1)])
 }
 
 /// The make of these numbers.

@@ -7,6 +7,7 @@
 pub mod book;
 pub mod calls;
 pub mod damage;
+pub mod edges;
 pub mod pace;
 pub mod places;
 pub mod random;

@@ -37,7 +37,7 @@ impl Pace {
             favourite: random.word(),
             step_divisor: random.pick(&[1, 8, 64]),
             leap: random.pick(&[1, 4, 20]),
-            flood: random.one_in(4),
+            flood: random.one_in(2),
         }
     }
 

@@ -16,13 +16,14 @@ pub const SITE_OF_EIGHT: Numbers = [20, 441, 24, 8];
 
 /// Few slots, so that a few deliveries already make levels give up buckets; 2 6 1 1 needs as many
 /// words as the example.
-const SMALL: [Numbers; 10] = [
+const SMALL: [Numbers; 11] = [
     [2, 2, 1, 1],
     [2, 6, 1, 1],
     [3, 2, 3, 2],
     [3, 3, 20, 1],
     [4, 6, 6, 2],
     [5, 7, 9, 3],
+    [4, 5, 17, 1],
     [6, 4, 18, 1],
     [8, 10, 12, 2],
     [20, 5, 24, 8],

@@ -7,6 +7,7 @@ use reference::histogram::{Bucket, Histogram, Level};
 use reference::shape::Shape;
 use reference::words::{encode_block, encode_head};
 
+use crate::calls::beside;
 use crate::random::Random;
 
 /// Draws of a level before the plainest one is taken.
@@ -29,13 +30,16 @@ pub fn book(random: &mut Random, shape: Shape) -> Vec<u32> {
 /// A clock anywhere, often next to the start or the end of time or of an interval.
 fn clock(random: &mut Random, shape: Shape) -> u32 {
     let ticks = shape.interval_ticks() as u32;
-    let border = random.between(0, Shape::CLOCK_MAX / ticks) * ticks;
+    let border = random.between(1, Shape::CLOCK_MAX / ticks) * ticks;
     match random.below(8) {
         0 => random.below(2) as u32,
         1 => random.between(0, ticks),
         2 => random.between(Shape::CLOCK_MAX - ticks, Shape::CLOCK_MAX),
         3 => Shape::CLOCK_MAX,
-        4 => border.saturating_sub(random.below(2) as u32),
+        4 => {
+            let border = random.pick(&[ticks, ticks, 2 * ticks, border]);
+            beside(random, border).min(Shape::CLOCK_MAX)
+        }
         5 => random.between(0, Shape::CLOCK_MAX),
         _ => random.between(0, ticks.min(4096) * 4),
     }

@@ -1,8 +1,9 @@
 //! Orders of a forecourt: cars come in bursts at the hours of the day, reports mostly at once.
 
 use draw::random::Random;
+use draw::shapes::within;
 
-use crate::observe::TICKS;
+use crate::observe::SITE;
 use crate::order::{windows, Kind, Order, Step};
 
 const HOUR: u32 = 3600;
@@ -81,8 +82,8 @@ fn arriving(name: &'static str, random: &mut Random, reports: &[Report]) -> Orde
             clock = report.arrival;
             steps.push(Step::Clock(clock));
         }
-        // One that is later than an interval would be refused.
-        if clock - report.stamp <= TICKS {
+        // A late one would be refused.
+        if !within(SITE).is_late(clock, report.stamp) {
             stamps.push(report.stamp);
             steps.push(Step::Delivery {
                 stamp: report.stamp,

@@ -1,6 +1,7 @@
 //! An arrival order: what is told to a book, and when it is asked.
 
 use draw::random::Random;
+use reference::window::window_from;
 
 use crate::observe::TICKS;
 
@@ -75,7 +76,8 @@ pub fn windows(random: &mut Random, clock: u32, ticks: &[u32]) -> Vec<u32> {
     let mut windows: Vec<u32> = spread.collect();
     for _ in 0..AIMED {
         let opening = random.pick(ticks) + random.between(0, 1);
-        let window = clock.saturating_sub(opening);
+        // Window 0 where the tick lies after the clock.
+        let window = window_from(clock, opening).unwrap_or(0);
         windows.push(window.min(TICKS));
     }
     windows

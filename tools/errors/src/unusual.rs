@@ -1,6 +1,7 @@
 //! Orders that no forecourt sends: at random, by a pattern, and one that aims at the bound.
 
 use draw::random::Random;
+use reference::window::window_from;
 
 use crate::observe::{CAPACITY, TICKS};
 use crate::order::{windows, Kind, Order, Step};
@@ -22,13 +23,13 @@ pub fn reverse(seed: u64) -> Order {
     at_the_end("newest first", Kind::Pattern, seed, deliveries)
 }
 
-/// Each half an interval late or later, while the clock goes through an interval.
+/// Each half an interval behind the clock or more, while the clock goes through an interval.
 pub fn late(seed: u64) -> Order {
     let mut random = Random::new(seed);
     let (mut steps, mut stamps) = (Vec::new(), Vec::new());
     for number in 0..COUNT {
         let clock = START + number * (TICKS / COUNT);
-        let stamp = clock - random.between(TICKS / 2, TICKS);
+        let stamp = clock - random.between(TICKS / 2, TICKS - 1);
         stamps.push(stamp);
         steps.push(Step::Clock(clock));
         steps.push(Step::Delivery {
@@ -141,7 +142,8 @@ fn aimed_at(random: &mut Random, level: u32) -> Vec<Step> {
             });
         }
         if split >= SPLITS / 2 && (split % 8 == 0 || split > SPLITS - 60) {
-            steps.push(Step::Ask((0..4).map(|back| END - START - back).collect()));
+            let windows = (0..4).filter_map(|tick| window_from(END, START + tick));
+            steps.push(Step::Ask(windows.collect()));
         }
     }
     steps

@@ -1,7 +1,8 @@
 //! The observations, the orders and the table.
 
 use draw::random::Random;
-use errors::observe::{observe, Observation, Observed, BOUND, TICKS};
+use draw::shapes::within;
+use errors::observe::{observe, Observation, Observed, BOUND, SITE, TICKS};
 use errors::order::{windows, Kind, Order, Step};
 use errors::{table, unusual, ORDERS};
 
@@ -34,12 +35,12 @@ fn relative_errors() {
 }
 
 #[test]
-fn windows_are_allowed() {
+fn windows_are_allowed_and_open_at_the_given_ticks() {
     let mut random = Random::new(1);
     let clock = TICKS + 5;
     let windows = windows(&mut random, clock, &[0, 7, TICKS, clock]);
     assert!(windows.iter().all(|window| *window <= TICKS));
-    for expected in [0, 1, 5, TICKS] {
+    for expected in [0, 1, 5, 6, TICKS - 2, TICKS - 1, TICKS] {
         assert!(windows.contains(&expected), "{expected}");
     }
 }
@@ -61,6 +62,45 @@ fn orders_are_long_and_repeatable() {
     }
 }
 
+/// No stamp ahead or late, no window too long.
+#[test]
+fn orders_hold_nothing_that_is_refused() {
+    let shape = within(SITE);
+    for make in ORDERS {
+        let order = make(3);
+        for book in &order.books {
+            let mut now = 0;
+            for step in book {
+                let accepted = match step {
+                    Step::Clock(clock) => {
+                        let rises = *clock >= now;
+                        now = *clock;
+                        rises
+                    }
+                    Step::Delivery { stamp, .. } => *stamp <= now && !shape.is_late(now, *stamp),
+                    Step::Ask(windows) => windows.iter().all(|window| *window <= TICKS),
+                };
+                assert!(accepted, "{}: {step:?} at {now}", order.name);
+            }
+        }
+    }
+}
+
+/// From the first tick of the interval to its last one, where the clock stands, and a few ticks less.
+#[test]
+fn aimed_asks_for_the_whole_interval() {
+    let expected: Vec<u32> = (0..4).map(|less| TICKS - less).collect();
+    let order = unusual::aimed(1);
+    let mut asked = 0;
+    for step in order.books.iter().flatten() {
+        if let Step::Ask(windows) = step {
+            assert_eq!(*windows, expected);
+            asked += 1;
+        }
+    }
+    assert!(asked > 1_000, "{asked}");
+}
+
 #[test]
 fn aimed_comes_near_the_bound() {
     let mut order = unusual::aimed(9);
@@ -80,7 +120,7 @@ fn refused_steps_are_reported() {
     let order = Order {
         name: "late",
         kind: Kind::Pattern,
-        books: vec![vec![Step::Clock(TICKS + 1), late]],
+        books: vec![vec![Step::Clock(TICKS), late]],
     };
     let trouble = observe(&order).err().expect("a refusal");
     assert!(trouble.contains("Err(9)"), "{trouble}");

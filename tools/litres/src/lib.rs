@@ -11,7 +11,8 @@
 //! litres::clock(&mut book, 3)?;
 //! litres::delivery(&mut book, 0, 1, 250).unwrap_err(); // 2^4 decilitres at most
 //! litres::delivery(&mut book, 0, 1, 5)?;
-//! assert_eq!(litres::query(&book, 0, 2)?, 5);
+//! assert_eq!(litres::query(&book, 0, 3)?, 5); // stamps 1, 2 and 3
+//! assert_eq!(litres::query(&book, 0, 2)?, 0);
 //! # Ok::<(), litres::Refused>(())
 //! ```
 
@@ -40,22 +41,24 @@ pub fn make(book: &mut [u32], k: u32, n: u32, m: u32, g: u32) -> Result<(), Refu
     accepted(unsafe { archive::litres_make(words, len, k, n, m, g) })
 }
 
-/// Sets a later or equal clock. Intervals that no window reaches any more are emptied, in every grade.
+/// Sets a later or equal clock. Where it enters another interval, all but that one and the one before it
+/// are emptied, in every grade.
 pub fn clock(book: &mut [u32], clock: u32) -> Result<(), Refused> {
     let (words, len) = (book.as_mut_ptr(), book.len());
     // SAFETY: as for `make`.
     accepted(unsafe { archive::litres_clock(words, len, clock) })
 }
 
-/// Records a delivery of so many decilitres of a grade at a tick.
+/// Records a delivery of so many decilitres of a grade at a tick, which is late from 2^k ticks behind
+/// the clock on.
 pub fn delivery(book: &mut [u32], grade: u32, stamp: u32, volume: u32) -> Result<(), Refused> {
     let (words, len) = (book.as_mut_ptr(), book.len());
     // SAFETY: as for `make`.
     accepted(unsafe { archive::litres_delivery(words, len, grade, stamp, volume) })
 }
 
-/// The book's sum for a grade, in decilitres, from `window` ticks before the clock up to the clock.
-/// `include/litres.h` says how near it is to the true sum.
+/// The book's sum for a grade, in decilitres, over the last `window` ticks, of which the clock's is the
+/// last; 0 for window 0. `include/litres.h` says how near it is to the true sum.
 pub fn query(book: &[u32], grade: u32, window: u32) -> Result<u64, Refused> {
     let mut sum = 0;
     // SAFETY: the pointer and the length are of one slice, shared and so not written by anybody

@@ -1,4 +1,5 @@
-//! The examples of document 01 through the archive.
+//! The examples of document 01 through the archive, with the windows and the lateness of document 02,
+//! request One.
 
 use litres::{clock, delivery, make, query, words, Refused};
 
@@ -66,12 +67,68 @@ fn p1_to_p3_and_p6_to_p8_levels() {
 
 #[test]
 fn p4_to_p7_windows() {
-    assert_eq!(query(&example(4), 0, 2), Ok(2));
-    assert_eq!(query(&example(5), 0, 3), Ok(5));
-    assert_eq!(query(&example(6), 0, 3), Ok(6));
-    assert_eq!(query(&example(7), 0, 2), Ok(4));
+    assert_eq!(query(&example(4), 0, 2), Ok(1));
+    assert_eq!(query(&example(5), 0, 3), Ok(2));
+    assert_eq!(query(&example(6), 0, 3), Ok(3));
+    assert_eq!(query(&example(7), 0, 2), Ok(3));
+    assert_eq!(query(&example(7), 0, 3), Ok(4));
     assert_eq!(query(&example(7), 0, 4), Ok(8));
     assert_eq!(query(&example(7), 0, 5), Err(Refused(5)));
+}
+
+#[test]
+fn window_0_answers_0_after_every_refusal() {
+    let mut book = example(7);
+    assert_eq!(query(&book, 0, 0), Ok(0));
+    assert_eq!(query(&book, 1, 0), Err(Refused(3)));
+    assert_eq!(query(&book[..89], 0, 0), Err(Refused(2)));
+    assert_eq!(query(&book[..7], 0, 0), Err(Refused(2)));
+    // A total that no level adds up to, then a head that is none as well.
+    book[8] += 1;
+    assert_eq!(query(&book, 0, 0), Err(Refused(11)));
+    assert_eq!(query(&book, 1, 0), Err(Refused(3)));
+    book[7] = 1;
+    assert_eq!(query(&book, 0, 0), Err(Refused(7)));
+}
+
+/// At clock 0, in the first interval, and next to the ends of the first ones.
+#[test]
+fn windows_as_long_as_the_clock() {
+    for now in 0..=9 {
+        let mut book = vec![0; 90];
+        make(&mut book, 2, 2, 4, 1).unwrap();
+        delivery(&mut book, 0, 0, 4).unwrap();
+        if now > 0 {
+            clock(&mut book, 1).unwrap();
+            delivery(&mut book, 0, 1, 2).unwrap();
+        }
+        clock(&mut book, now).unwrap();
+        let all = if now == 0 { 4 } else { 6 };
+        let expected = |window, sum| if window > 4 { Err(Refused(5)) } else { Ok(sum) };
+        assert_eq!(query(&book, 0, now), expected(now, all - 4), "{now}");
+        assert_eq!(query(&book, 0, now + 1), expected(now + 1, all), "{now}");
+        assert_eq!(query(&book, 0, now + 2), expected(now + 2, all), "{now}");
+    }
+}
+
+/// One delivery at each tick, read every `window` ticks: each counts once.
+#[test]
+fn windows_end_to_end() {
+    for window in [1, 2, 3, 4] {
+        // Four slots, one for each tick, so that each sum is exact.
+        let mut book = vec![0; words(2, 4, 9, 1).unwrap()];
+        make(&mut book, 2, 4, 9, 1).unwrap();
+        let (mut delivered, mut read) = (0, 0);
+        for now in 0..24 {
+            clock(&mut book, now).unwrap();
+            delivery(&mut book, 0, now, now + 1).unwrap();
+            delivered += u64::from(now + 1);
+            if (now + 1) % window == 0 {
+                read += query(&book, 0, window).unwrap();
+            }
+        }
+        assert_eq!(read, delivered, "{window}");
+    }
 }
 
 #[test]
@@ -90,8 +147,9 @@ fn p9_fills_the_interval() {
 fn p10_late_and_ahead() {
     let mut book = example(7);
     clock(&mut book, 8).unwrap();
-    for (stamp, answer) in [(4, Ok(())), (3, Err(Refused(9))), (9, Err(Refused(8)))] {
-        assert_eq!(delivery(&mut book.clone(), 0, stamp, 1), answer);
+    let late = Err(Refused(9));
+    for (stamp, answer) in [(5, Ok(())), (4, late), (3, late), (9, Err(Refused(8)))] {
+        assert_eq!(delivery(&mut book.clone(), 0, stamp, 1), answer, "{stamp}");
     }
 }
 

@@ -7,6 +7,7 @@ use crate::layout;
 use crate::refusal::{self, when};
 use crate::shape::Shape;
 use crate::soundness::{block_is_sound, sound_head};
+use crate::window::opening;
 use crate::words::{decode_block, decode_head, encode_block, encode_head};
 
 /// A call with its numbers, each any number of 32 bits.
@@ -41,7 +42,7 @@ pub enum Call {
     Query {
         /// Grade.
         grade: u32,
-        /// Ticks that the window reaches back from the clock.
+        /// Ticks that the window covers, the clock's own the last of them.
         window: u32,
     },
 }
@@ -113,10 +114,7 @@ pub fn deliver(words: &mut [u32], grade: u32, stamp: u32, volume: u32) -> Result
     when(grade >= shape.g(), refusal::GRADE)?;
     when(volume == 0 || volume > Shape::VOLUME_MAX, refusal::VOLUME)?;
     when(stamp > clock, refusal::AHEAD)?;
-    when(
-        tick + shape.interval_ticks() < u64::from(clock),
-        refusal::LATE,
-    )?;
+    when(shape.is_late(clock, stamp), refusal::LATE)?;
     let mut block = sound_block(shape, words, grade)?;
     let histogram = &mut block[shape.parity(tick)];
     let full = histogram.total + u64::from(volume) > shape.capacity();
@@ -126,20 +124,25 @@ pub fn deliver(words: &mut [u32], grade: u32, stamp: u32, volume: u32) -> Result
     Ok(())
 }
 
-/// The sum of a window that ends at the clock.
+/// The sum of a window that ends at the clock; 0 for window 0, once nothing refuses it.
 pub fn query(words: &[u32], grade: u32, window: u32) -> Result<u64, u32> {
     let (shape, clock) = open(words)?;
     when(grade >= shape.g(), refusal::GRADE)?;
     let too_long = u64::from(window) > shape.interval_ticks();
     when(too_long, refusal::WINDOW)?;
     let block = sound_block(shape, words, grade)?;
-    let opening = u64::from(clock.saturating_sub(window));
+    let opening = opening(clock, window);
+    Ok(opening.map_or(0, |opening| sum_from(shape, clock, opening, &block)))
+}
+
+/// The sum of a window that opens at this tick, in the current interval or in the one before.
+pub fn sum_from(shape: Shape, clock: u32, opening: u64, block: &[Histogram; 2]) -> u64 {
     let clock = u64::from(clock);
     let sum = block[shape.parity(opening)].sum_from(shape.offset(opening));
     if shape.interval(opening) == shape.interval(clock) {
-        Ok(sum)
+        sum
     } else {
-        Ok(sum + block[shape.parity(clock)].total)
+        sum + block[shape.parity(clock)].total
     }
 }
 

@@ -4,6 +4,7 @@
 use crate::calls::{Answer, Call, Reply};
 use crate::refusal::{self, when};
 use crate::shape::Shape;
+use crate::window::opening;
 
 /// An accepted delivery.
 #[derive(Clone, Copy, Debug, PartialEq, Eq)]
@@ -91,21 +92,21 @@ impl Ledger {
     }
 
     fn check_delivery(&self, entry: Entry) -> Result<(), u32> {
-        let stamp = u64::from(entry.stamp);
-        let end = stamp + self.shape.interval_ticks();
+        let interval = self.shape.interval(entry.stamp.into());
         when(entry.grade >= self.shape.g(), refusal::GRADE)?;
         when(entry.volume == 0, refusal::VOLUME)?;
         when(entry.volume > Shape::VOLUME_MAX, refusal::VOLUME)?;
         when(entry.stamp > self.clock, refusal::AHEAD)?;
-        when(end < u64::from(self.clock), refusal::LATE)?;
-        let total = self.interval_total(entry.grade, self.shape.interval(stamp));
+        when(self.shape.is_late(self.clock, entry.stamp), refusal::LATE)?;
+        let total = self.interval_total(entry.grade, interval);
         let full = total + u64::from(entry.volume) > self.shape.capacity();
         when(full, refusal::FULL)
     }
 
-    /// Whether the window that ends at the clock reaches this stamp, both ends included.
+    /// Whether a stamp lies in the window: from its opening up to the clock.
     pub fn covers(&self, window: u32, stamp: u32) -> bool {
-        stamp <= self.clock && u64::from(stamp) + u64::from(window) >= u64::from(self.clock)
+        let first = opening(self.clock, window);
+        first.is_some_and(|first| first <= stamp.into()) && stamp <= self.clock
     }
 
     /// All that a grade has received in an interval.

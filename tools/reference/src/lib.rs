@@ -1,6 +1,7 @@
-//! A second implementation of document 01, as plain as it can be.
+//! A second implementation of document 01, as plain as it can be. Windows and lateness are those of
+//! document 02, request One.
 //!
-//! It shares nothing with the proved code but the document. A call decodes the words into vectors
+//! It shares nothing with the proved code but the documents. A call decodes the words into vectors
 //! of buckets, inserts decilitre by decilitre, and encodes the vectors again; clarity comes before
 //! speed everywhere.
 
@@ -15,4 +16,5 @@ pub mod protocol;
 pub mod refusal;
 pub mod shape;
 pub mod soundness;
+pub mod window;
 pub mod words;

@@ -18,7 +18,7 @@ pub const CLOCK_LIMIT: u32 = 6;
 pub const HEAD: u32 = 7;
 /// The stamp is ahead of the clock.
 pub const AHEAD: u32 = 8;
-/// The stamp is more than an interval behind the clock.
+/// The stamp is an interval or more behind the clock.
 pub const LATE: u32 = 9;
 /// The new clock is behind the clock.
 pub const CLOCK_BACK: u32 = 10;

@@ -4,6 +4,7 @@
 use std::ops::Range;
 
 use crate::layout::{BLOCK_HEAD_WORDS, HEAD_WORDS, LEVEL_HEAD_WORDS, SLOT_WORDS};
+use crate::window::opening;
 
 /// A shape within its limits.
 #[derive(Clone, Copy, Debug, PartialEq, Eq)]
@@ -88,6 +89,17 @@ impl Shape {
     /// The place of a tick within its interval.
     pub fn offset(self, tick: u64) -> u64 {
         tick % self.interval_ticks()
+    }
+
+    /// Whether a stamp is late: an interval or more behind the clock, where no window reaches.
+    pub fn is_late(self, clock: u32, stamp: u32) -> bool {
+        u64::from(stamp) + self.interval_ticks() <= u64::from(clock)
+    }
+
+    /// The oldest stamp that is not late, at which the longest window opens.
+    pub fn oldest(self, clock: u32) -> u32 {
+        let oldest = opening(clock, 1 << self.k);
+        oldest.expect("the longest window covers the clock") as u32
     }
 
     /// Which of a block's two histograms serves the interval of a tick.

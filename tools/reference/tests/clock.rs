@@ -10,14 +10,14 @@ fn shape() -> Shape {
     Shape::new(2, 3, 5, 3).unwrap()
 }
 
-/// Three grades at clock 5, with deliveries in both intervals.
+/// Three grades at clock 5, with a delivery at each tick from 1 on, so in both intervals.
 fn book() -> Vec<u32> {
     let mut words = vec![0; shape().book_length()];
     make(&mut words, 2, 3, 5, 3).unwrap();
-    clock(&mut words, 5).unwrap();
-    for grade in 0..3 {
-        for stamp in 1..=5 {
-            deliver(&mut words, grade, stamp, 2 + grade).unwrap();
+    for now in 1..=5 {
+        clock(&mut words, now).unwrap();
+        for grade in 0..3 {
+            deliver(&mut words, grade, now, 2 + grade).unwrap();
         }
     }
     words
@@ -94,13 +94,13 @@ fn all_grades_are_inspected_before_any_is_emptied() {
 #[test]
 fn window_into_the_interval_before_adds_the_current_total() {
     let words = book();
-    // Stamps 1 to 5 carry 2 each; stamps 4 and 5 are in the current interval.
-    for (window, sum) in [(0, 2), (1, 4), (2, 6), (3, 8), (4, 10)] {
+    // Stamps 1 to 5 carry 2 each; stamps 4 and 5 are in the current interval, 1 in no window.
+    for (window, sum) in [(0, 0), (1, 2), (2, 4), (3, 6), (4, 8)] {
         assert_eq!(query(&words, 0, window), Ok(sum), "window {window}");
     }
     let mut words = book();
     clock(&mut words, 7).unwrap();
-    for (window, sum) in [(0, 0), (1, 0), (2, 2), (3, 4), (4, 6)] {
+    for (window, sum) in [(0, 0), (1, 0), (2, 0), (3, 2), (4, 4)] {
         assert_eq!(query(&words, 0, window), Ok(sum), "window {window}");
     }
 }
@@ -112,10 +112,14 @@ fn window_longer_than_the_clock_opens_at_0() {
     for window in 0..=4 {
         assert_eq!(query(&words, 0, window), Ok(0));
     }
-    clock(&mut words, 2).unwrap();
     deliver(&mut words, 0, 0, 5).unwrap();
+    for (window, sum) in [(0, 0), (1, 5), (2, 5), (4, 5)] {
+        assert_eq!(query(&words, 0, window), Ok(sum), "window {window}");
+    }
+    clock(&mut words, 2).unwrap();
     deliver(&mut words, 0, 2, 1).unwrap();
-    for (window, sum) in [(0, 1), (1, 1), (2, 6), (3, 6), (4, 6)] {
+    // Window 2 opens at 1, window 3 at 0 and window 4 no earlier.
+    for (window, sum) in [(0, 0), (1, 1), (2, 1), (3, 6), (4, 6)] {
         assert_eq!(query(&words, 0, window), Ok(sum), "window {window}");
     }
 }

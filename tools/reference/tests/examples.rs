@@ -1,4 +1,5 @@
-//! The examples of document 01: P1 to P10, the two book lengths, the windows and the bench text.
+//! The examples of document 01: P1 to P10, the two book lengths, the windows and the bench text. What
+//! windows answer and which stamps are late is document 02's, request One.
 
 use reference::calls::{clock, deliver, make, query};
 use reference::histogram::{Histogram, Level};
@@ -81,33 +82,36 @@ fn p3_evicts_from_level_0() {
 }
 
 #[test]
-fn p4_is_served_by_level_0() {
+fn p4_window_2_opens_at_2() {
     let words = example(4);
-    assert_eq!(query(&words, 0, 2), Ok(2));
-    assert_eq!(even(&words).serving_level(1), Some(0));
+    assert_eq!(query(&words, 0, 2), Ok(1));
+    assert_eq!(even(&words).serving_level(2), Some(0));
 }
 
 #[test]
-fn p5_is_served_by_level_1() {
+fn p5_window_3_opens_at_1() {
     let words = example(5);
-    assert_eq!(query(&words, 0, 3), Ok(5));
-    assert_eq!(even(&words).serving_level(0), Some(1));
+    assert_eq!(query(&words, 0, 3), Ok(2));
+    assert_eq!(even(&words).serving_level(1), Some(0));
 }
 
 #[test]
 fn p6_evicts_from_level_1() {
     let words = example(6);
     assert_level(&words, 1, 1, &[(1, 1, 2), (2, 2, 2)]);
-    assert_eq!(query(&words, 0, 3), Ok(6));
-    assert_eq!(even(&words).serving_level(0), Some(2));
+    assert_eq!(query(&words, 0, 3), Ok(3));
+    assert_eq!(even(&words).serving_level(1), Some(0));
 }
 
 #[test]
 fn p7_leaves_out_the_bucket_that_the_opening_cuts() {
     let words = example(7);
     assert_level(&words, 2, 0, &[(0, 2, 4), (2, 2, 4)]);
-    assert_eq!(query(&words, 0, 2), Ok(4));
-    assert_eq!(ledger_sum(&DELIVERIES, 2), 5);
+    // Window 2 opens at 2, which level 0 keeps; window 3 opens at 1, inside level 2's first bucket.
+    assert_eq!(query(&words, 0, 2), Ok(3));
+    assert_eq!(even(&words).serving_level(2), Some(0));
+    assert_eq!(query(&words, 0, 3), Ok(4));
+    assert_eq!(even(&words).serving_level(1), Some(2));
 }
 
 #[test]
@@ -139,7 +143,7 @@ fn p9_fills_the_interval_exactly() {
 fn p10_meets_both_ends_of_the_allowed_stamps() {
     let mut start = example(7);
     clock(&mut start, 8).unwrap();
-    for (stamp, answer) in [(4, Ok(())), (3, Err(9)), (9, Err(8))] {
+    for (stamp, answer) in [(5, Ok(())), (4, Err(9)), (3, Err(9)), (9, Err(8))] {
         let mut words = start.clone();
         assert_eq!(deliver(&mut words, 0, stamp, 1), answer, "stamp {stamp}");
         assert_eq!(words == start, answer.is_err());
@@ -147,19 +151,23 @@ fn p10_meets_both_ends_of_the_allowed_stamps() {
 }
 
 #[test]
-fn window_4_is_answered_and_5_refused() {
-    for number in 1..=7 {
+fn window_0_answers_0_and_4_all_and_5_is_refused() {
+    for (number, total) in [(1, 3), (2, 4), (3, 5), (6, 6), (7, 8)] {
         let words = example(number);
-        assert!(query(&words, 0, 4).is_ok());
+        assert_eq!(query(&words, 0, 0), Ok(0));
+        assert_eq!(query(&words, 0, 4), Ok(total));
         assert_eq!(query(&words, 0, 5), Err(5));
     }
 }
 
 #[test]
 fn every_sum_of_the_table_by_the_ledger() {
-    assert_eq!(ledger_sum(&DELIVERIES[..3], 2), 2);
-    assert_eq!(ledger_sum(&DELIVERIES[..3], 3), 5);
-    assert_eq!(ledger_sum(&DELIVERIES[..4], 3), 6);
+    assert_eq!(ledger_sum(&DELIVERIES[..3], 2), 1);
+    assert_eq!(ledger_sum(&DELIVERIES[..3], 3), 2);
+    assert_eq!(ledger_sum(&DELIVERIES[..4], 3), 3);
+    assert_eq!(ledger_sum(&DELIVERIES, 2), 3);
+    assert_eq!(ledger_sum(&DELIVERIES, 3), 5);
+    assert_eq!(ledger_sum(&DELIVERIES, 0), 0);
 }
 
 #[test]
@@ -197,7 +205,7 @@ fn words_of_p3() {
 #[test]
 fn bench_text() {
     let input = "m 2 2 4 1;c 3;d 0 0 3;d 0 3 1;d 0 1 1;q 0 2;d 0 4 1;q 0 4;q 0 5";
-    let expected = "ok;ok;ok;ok;ok;= 2;refused 8;= 5;refused 5;";
+    let expected = "ok;ok;ok;ok;ok;= 1;refused 8;= 5;refused 5;";
     let mut output = Vec::new();
     run(input.replace(';', "\n").as_bytes(), &mut output).unwrap();
     assert_eq!(
@@ -219,5 +227,5 @@ fn first_can_rise_from_one_level_to_the_next() {
     let firsts: Vec<_> = even.levels.iter().map(|level| level.first).collect();
     assert_eq!(firsts, [1, 2, 0, 0]);
     // Opening 1 is kept by level 0 although level 1 has lost it.
-    assert_eq!(query(&words, 0, 2), Ok(4));
+    assert_eq!(query(&words, 0, 3), Ok(4));
 }

@@ -179,7 +179,7 @@ fn head_is_unsound_before_the_first_make() {
 fn make_may_need_all_of_the_buffer_and_no_more() {
     // 117 slots on 21 levels take all 14,836 words, and so do two grades of 72 slots on 17.
     for line in ["m 20 117 20 1", "m 5 72 16 2"] {
-        assert_eq!(answers(&[line, "c 3", "d 0 3 1", "q 0 0"])[3], "= 1");
+        assert_eq!(answers(&[line, "c 3", "d 0 3 1", "q 0 1"])[3], "= 1");
     }
     // 224 slots on 11 levels take two words more than there are.
     assert_eq!(BUFFER_WORDS, 14_836);
@@ -212,9 +212,9 @@ fn refused_make_keeps_the_book() {
         "c 3",
         "d 0 3 2",
         "m 20 441 24 1",
-        "q 0 0",
+        "q 0 1",
         "m 1 1 1 1",
-        "q 0 0",
+        "q 0 1",
         "c 2",
     ];
     let expected = [
@@ -235,14 +235,14 @@ fn later_make_may_be_longer_or_shorter() {
     let lines = [
         "m 2 2 4 1",
         "d 0 0 3",
-        "q 0 0",
+        "q 0 1",
         "m 3 50 10 2",
         "q 1 8",
         "d 1 0 5",
-        "q 1 0",
+        "q 1 1",
         "m 2 2 1 1",
-        "q 1 0",
-        "q 0 0",
+        "q 1 1",
+        "q 0 1",
         "m 3 50 10 2",
         "q 1 8",
     ];
@@ -276,7 +276,7 @@ fn every_refusal_that_the_protocol_can_show() {
         "c 2000000001",
         "d 0 1 1",
         "c 9",
-        "d 0 4 1",
+        "d 0 5 1",
         "c 8",
         "d 0 9 17",
     ];

@@ -85,7 +85,7 @@ fn order_for_deliveries() {
     assert_refused(unsound(), delivery(1, 9, 0), 4);
     assert_refused(unsound(), delivery(1, 3, 65_536), 4);
     assert_refused(unsound(), delivery(1, 9, 17), 8);
-    assert_refused(unsound(), delivery(1, 3, 17), 9);
+    assert_refused(unsound(), delivery(1, 4, 17), 9);
     assert_refused(unsound(), delivery(1, 8, 17), 11);
     assert_refused(book(), delivery(1, 8, 1), 12);
 }
@@ -97,6 +97,21 @@ fn order_for_queries() {
     assert_refused(unsound(), query(2, 5), 3);
     assert_refused(unsound(), query(1, 5), 5);
     assert_refused(unsound(), query(1, 4), 11);
+}
+
+#[test]
+fn window_0_answers_0_after_every_refusal() {
+    let query = |grade| Call::Query { grade, window: 0 };
+    assert_opening(query(0));
+    assert_opening(query(2));
+    assert_refused(unsound(), query(2), 3);
+    assert_refused(book(), query(2), 3);
+    assert_refused(unsound(), query(1), 11);
+    for grade in [0, 1] {
+        let mut words = book();
+        assert_eq!(perform(&mut words, query(grade)), Ok(Answer::Sum(0)));
+        assert_eq!(words, book());
+    }
 }
 
 #[test]
@@ -121,7 +136,13 @@ fn only_the_named_block_is_inspected() {
 
 #[test]
 fn edges_of_stamps() {
-    for (stamp, answer) in [(8, Ok(())), (9, Err(8)), (4, Ok(())), (3, Err(9))] {
+    for (stamp, answer) in [
+        (8, Ok(())),
+        (9, Err(8)),
+        (5, Ok(())),
+        (4, Err(9)),
+        (0, Err(9)),
+    ] {
         assert_eq!(deliver(&mut book(), 0, stamp, 1), answer, "stamp {stamp}");
     }
     for stamp in [u32::MAX, u32::MAX - 3, u32::MAX - 4] {
@@ -142,7 +163,7 @@ fn edges_of_volumes() {
     assert_eq!(deliver(&mut words, 0, 0, 65_535), Ok(()));
     assert_eq!(deliver(&mut words, 0, 0, 2), Err(12));
     assert_eq!(deliver(&mut words, 0, 0, 1), Ok(()));
-    assert_eq!(query(&words, 0, 0), Ok(65_536));
+    assert_eq!(query(&words, 0, 1), Ok(65_536));
 }
 
 #[test]
@@ -160,7 +181,13 @@ fn edges_of_clocks() {
 
 #[test]
 fn edges_of_windows_and_grades() {
-    for (window, answer) in [(0, Ok(16)), (4, Ok(16)), (5, Err(5)), (u32::MAX, Err(5))] {
+    for (window, answer) in [
+        (0, Ok(0)),
+        (1, Ok(16)),
+        (4, Ok(16)),
+        (5, Err(5)),
+        (u32::MAX, Err(5)),
+    ] {
         assert_eq!(query(&book(), 1, window), answer, "window {window}");
     }
     for grade in [2, 3, 1 << 31, u32::MAX] {

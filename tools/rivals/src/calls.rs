@@ -6,6 +6,7 @@ use reference::calls::{Answer, Call, Reply};
 use reference::layout;
 use reference::refusal::{self, when};
 use reference::shape::Shape;
+use reference::window::opening;
 
 /// The four calls on words of any length and content; an error is the refusal's number, and a call
 /// that is refused writes no word.
@@ -71,9 +72,8 @@ pub trait Calls {
         when(grade >= shape.g(), refusal::GRADE)?;
         when(volume == 0 || volume > Shape::VOLUME_MAX, refusal::VOLUME)?;
         when(stamp > clock, refusal::AHEAD)?;
+        when(shape.is_late(clock, stamp), refusal::LATE)?;
         let tick = u64::from(stamp);
-        let late = tick + shape.interval_ticks() < u64::from(clock);
-        when(late, refusal::LATE)?;
         let block = &mut book[shape.block(grade)];
         when(!Self::is_sound(shape, block), refusal::BLOCK)?;
         let parity = shape.parity(tick);
@@ -88,7 +88,7 @@ pub trait Calls {
         Ok(())
     }
 
-    /// The sum of a window that ends at the clock.
+    /// The sum of a window that ends at the clock; 0 for window 0, once nothing refuses it.
     fn query(book: &[u32], grade: u32, window: u32) -> Result<u64, u32> {
         let (shape, clock) = open(book)?;
         when(grade >= shape.g(), refusal::GRADE)?;
@@ -96,7 +96,9 @@ pub trait Calls {
         when(too_long, refusal::WINDOW)?;
         let block = &book[shape.block(grade)];
         when(!Self::is_sound(shape, block), refusal::BLOCK)?;
-        let opening = u64::from(clock.saturating_sub(window));
+        let Some(opening) = opening(clock, window) else {
+            return Ok(0);
+        };
         let clock = u64::from(clock);
         let sum = sum_from(shape, block, opening);
         if shape.interval(opening) == shape.interval(clock) {

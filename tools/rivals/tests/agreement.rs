@@ -75,6 +75,36 @@ fn random_calls() {
     }
 }
 
+/// Every window and every stamp while the clock goes through the first intervals.
+#[test]
+fn windows_and_stamps_at_every_clock() {
+    for k in [2, 3] {
+        let ticks = 1 << k;
+        let mut words = made(Shape::new(k, 3, 10, 1).unwrap());
+        let (mut late, mut answered) = (0, 0);
+        for clock in 0..3 * ticks + 2 {
+            agree(&mut words, Call::Clock { clock }).unwrap();
+            let delivery = |stamp| Call::Delivery {
+                grade: 0,
+                stamp,
+                volume: clock + 1,
+            };
+            agree(&mut words, delivery(clock)).unwrap();
+            for window in 0..=ticks + 1 {
+                let answer = agree(&mut words, Call::Query { grade: 0, window });
+                answered += u32::from(answer.is_ok());
+            }
+            for stamp in 0..=clock + 1 {
+                let answer = agree(&mut words.clone(), delivery(stamp));
+                late += u32::from(answer == Err(refusal::LATE));
+            }
+        }
+        // All windows but one; one stamp at clock 2^k, two at the next clock and so on.
+        assert_eq!(answered, (3 * ticks + 2) * (ticks + 1));
+        assert_eq!(late, (ticks + 1) * (2 * ticks + 3));
+    }
+}
+
 #[test]
 fn a_book_of_the_greatest_shape() {
     let shape = Shape::new(20, 1024, 24, 2).unwrap();
@@ -236,7 +266,7 @@ fn refuses(k: u32, index: usize, total: u32, first: u32, buckets: &[[u32; 3]]) -
         Fast::delivery(&mut words, 0, last, volume).unwrap();
         rest -= volume;
     }
-    let (grade, window) = (0, 0);
+    let (grade, window) = (0, 1);
     agree(&mut words, Call::Query { grade, window }).unwrap();
     let level = &mut words[shape.block(0)][shape.level(0, index)];
     level.fill(0);

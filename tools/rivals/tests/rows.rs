@@ -48,7 +48,7 @@ impl Book {
         level[FIRST] = first;
         let slots = &mut level[LEVEL_HEAD_WORDS..][..SLOT_WORDS * buckets.len()];
         slots.copy_from_slice(buckets.as_flattened());
-        let (grade, window) = (0, 0);
+        let (grade, window) = (0, 1);
         let answer = perform(&mut words, Call::Query { grade, window });
         let fast = Fast::query(&words, grade, window).map(Answer::Sum);
         assert_eq!(fast, answer, "level {index} from {first}: {buckets:?}");
@@ -258,14 +258,17 @@ fn unused_slots_that_are_not_zero() {
         let shape = Shape::new(4, n, 2, 1).unwrap();
         let mut words = vec![0; shape.book_length()];
         Fast::make(&mut words, 4, n, 2, 1).unwrap();
-        assert_eq!(Fast::query(&words, 0, 0), Ok(0));
+        assert_eq!(Fast::query(&words, 0, 1), Ok(0));
         let block = shape.block(0).start;
         for (parity, index) in [0, 1].into_iter().flat_map(|p| [0, 1, 2].map(|i| (p, i))) {
             let level = shape.level(parity, index);
             let used = if index == 0 { 2 } else { 5 };
             for at in block + level.start + used..block + level.end {
                 words[at] = 1 << (at % 32);
-                assert_eq!(Fast::query(&words, 0, 0), Err(refusal::BLOCK), "{n} {at}");
+                for window in [0, 1] {
+                    let answer = Fast::query(&words, 0, window);
+                    assert_eq!(answer, Err(refusal::BLOCK), "{n} {at}");
+                }
                 words[at] = 0;
             }
         }

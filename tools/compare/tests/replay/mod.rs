@@ -1,22 +1,22 @@
 //! A usual run on words of its own, so that a test can look at the books that its scripts build.
 
 use compare::difference::{content, lines};
-use reference::calls::{perform, Answer, Call};
+use reference::calls::{perform, Call, Reply};
 use reference::histogram::Histogram;
 use reference::ledger::Ledger;
 use reference::protocol::{parse, BUFFER_WORDS};
 use reference::shape::Shape;
 use reference::words::decode_block;
 
-/// A book before an accepted call, and what the call answered.
+/// A book before a call, and what the call answered.
 pub struct Step<'a> {
     /// The call.
     pub call: Call,
-    /// Its answer.
-    pub answer: Answer,
+    /// Its answer, or the number of its refusal.
+    pub reply: Reply,
     /// The ledger before the call.
     pub before: &'a Ledger,
-    /// The words before the call.
+    /// The buffer before the call; the book has its first words.
     pub words: &'a [u32],
 }
 
@@ -34,7 +34,7 @@ impl Step<'_> {
     }
 }
 
-/// Shows every accepted call of a script that finds a book.
+/// Shows every call of a script that finds a book, accepted or not.
 pub fn replay(script: &[u8], mut see: impl FnMut(Step)) {
     let mut words = vec![0; BUFFER_WORDS];
     let mut ledger: Option<Ledger> = None;
@@ -46,19 +46,19 @@ pub fn replay(script: &[u8], mut see: impl FnMut(Step)) {
         let borrowed = asked.map_or(BUFFER_WORDS, Shape::book_length);
         let borrowed = borrowed.min(BUFFER_WORDS);
         let before = words.clone();
-        let Ok(answer) = perform(&mut words[..borrowed], call) else {
-            continue;
-        };
+        let reply = perform(&mut words[..borrowed], call);
         match &mut ledger {
-            None => ledger = asked.map(Ledger::new),
+            None if reply.is_ok() => ledger = asked.map(Ledger::new),
+            None => {}
             Some(ledger) => {
                 see(Step {
                     call,
-                    answer,
+                    reply,
                     before: ledger,
                     words: &before,
                 });
-                ledger.perform(call, borrowed).expect("also accepted here");
+                let noted = ledger.perform(call, borrowed);
+                assert_eq!(noted.err(), reply.err(), "{call:?}");
             }
         }
     }

@@ -1,0 +1,144 @@
+//! Calls at the edges of windows and of lateness, where a mistake of one tick shows: of which kind a
+//! call is, and which kinds a long run must show.
+
+use std::ops::RangeInclusive;
+
+use reference::calls::{self, Answer, Call, Reply};
+use reference::ledger::Ledger;
+use reference::refusal;
+use reference::shape::Shape;
+use reference::soundness::sound_head;
+use reference::window::opening;
+use reference::words::{decode_block, decode_head};
+
+use crate::shapes::{within, EXAMPLE};
+
+/// The kinds of a call that a book of this shape answered at this clock, mostly none. A question
+/// counts where it is accepted, a delivery at the oldest stamp that is accepted or at the one before
+/// it, which is late.
+pub fn kinds(shape: Shape, clock: u32, call: Call, reply: Reply) -> Vec<String> {
+    let Some(place) = place(shape, clock) else {
+        return Vec::new();
+    };
+    let names = match (call, reply) {
+        (Call::Query { window, .. }, Ok(_)) => windows(shape, clock, window),
+        (Call::Delivery { stamp, .. }, Ok(_)) if stamp == shape.oldest(clock) => {
+            vec!["oldest stamp"]
+        }
+        // A late stamp is below the clock, so that there is a next one.
+        (Call::Delivery { stamp, .. }, Err(refusal::LATE)) if stamp + 1 == shape.oldest(clock) => {
+            vec!["stamp before the oldest"]
+        }
+        _ => Vec::new(),
+    };
+    let kind = |name: &str| format!("{name} at clock {place}");
+    names.into_iter().map(kind).collect()
+}
+
+/// Where a clock stands: at the start of time, in the first interval, or next to the end of that one
+/// or of a later one. Nothing for other clocks.
+fn place(shape: Shape, clock: u32) -> Option<&'static str> {
+    let (ticks, clock) = (shape.interval_ticks(), u64::from(clock));
+    let [last, first, second] = if clock <= ticks + 1 {
+        ["2^k - 1", "2^k", "2^k + 1"]
+    } else {
+        ["j 2^k - 1", "j 2^k", "j 2^k + 1"]
+    };
+    match shape.offset(clock) {
+        _ if clock == 0 => Some("0"),
+        _ if clock == 1 => Some("1"),
+        offset if offset == ticks - 1 => Some(last),
+        _ if clock < ticks => Some("in the first interval"),
+        0 => Some(first),
+        1 => Some(second),
+        _ => None,
+    }
+}
+
+/// What a window is that has its length from the clock or the shape; it may be several at once.
+fn windows(shape: Shape, clock: u32, window: u32) -> Vec<&'static str> {
+    let (ticks, clock) = (shape.interval_ticks(), u64::from(clock));
+    let lengths = [
+        ("window 0", 0),
+        ("window 1", 1),
+        ("window clock", clock),
+        ("window clock + 1", clock + 1),
+        ("window 2^k - 1", ticks - 1),
+        ("window 2^k", ticks),
+    ];
+    let equal = lengths.into_iter().filter(|(_, l)| *l == window.into());
+    equal.map(|(name, _)| name).collect()
+}
+
+/// The kinds of a question to a book whose window matters to a tick: a tick less or a tick more gives
+/// another sum. So a side that is wrong for one kind alone is found.
+pub fn telling(book: &[u32], call: Call, reply: Reply) -> Vec<String> {
+    let (Call::Query { grade, window }, Ok(Answer::Sum(sum))) = (call, reply) else {
+        return Vec::new();
+    };
+    let (shape, clock) = sound_head(decode_head(book)).expect("an accepted call");
+    let kinds = kinds(shape, clock, call, reply);
+    let differs = |other| sum_from(book, grade, opening(clock, other)) != sum;
+    by_neighbours(kinds, window, differs)
+}
+
+/// Each kind with the name of each neighbouring window that differs.
+fn by_neighbours(kinds: Vec<String>, window: u32, differs: impl Fn(u32) -> bool) -> Vec<String> {
+    let shorter = window.checked_sub(1).map(|other| ("a tick less", other));
+    let neighbours = shorter.into_iter().chain([("a tick more", window + 1)]);
+    let names = neighbours.filter(|(_, other)| differs(*other));
+    names
+        .flat_map(|(name, _)| kinds.iter().map(move |kind| format!("{kind}, not {name}")))
+        .collect()
+}
+
+/// The sum of a sound book for a window that opens here; 0 where it opens nowhere.
+pub fn sum_from(book: &[u32], grade: u32, opening: Option<u64>) -> u64 {
+    let (shape, clock) = sound_head(decode_head(book)).expect("a sound book");
+    let block = decode_block(shape, &book[shape.block(grade)]).map(|raw| raw.histogram());
+    opening.map_or(0, |opening| calls::sum_from(shape, clock, opening, &block))
+}
+
+/// All kinds that there are: those that a book of the example's shape, which is small enough to try
+/// every window and stamp, shows at the clocks of its first intervals.
+pub fn all() -> Vec<String> {
+    let mut all = Vec::new();
+    for clock in CLOCKS {
+        let mut ledger = example_at(clock);
+        let windows = WINDOWS.map(|window| Call::Query { grade: 0, window });
+        let stamps = (0..=clock).map(|stamp| Call::Delivery {
+            grade: 0,
+            stamp,
+            volume: 1,
+        });
+        for call in windows.chain(stamps) {
+            let reply = ledger.perform(call, within(EXAMPLE).book_length());
+            all.extend(kinds(within(EXAMPLE), clock, call, reply));
+        }
+    }
+    all
+}
+
+/// All that questions can tell: the same, with each neighbouring window that opens elsewhere.
+pub fn all_telling() -> Vec<String> {
+    let mut all = Vec::new();
+    for (clock, window) in CLOCKS.flat_map(|clock| WINDOWS.map(move |window| (clock, window))) {
+        let call = Call::Query { grade: 0, window };
+        let reply = example_at(clock).perform(call, within(EXAMPLE).book_length());
+        let kinds = kinds(within(EXAMPLE), clock, call, reply);
+        let differs = |other| opening(clock, other) != opening(clock, window);
+        all.extend(by_neighbours(kinds, window, differs));
+    }
+    all
+}
+
+/// The example's clocks, to the second tick of its third interval, and its windows.
+const CLOCKS: RangeInclusive<u32> = 0..=9;
+const WINDOWS: RangeInclusive<u32> = 0..=4;
+
+fn example_at(clock: u32) -> Ledger {
+    let mut ledger = Ledger::new(within(EXAMPLE));
+    let reply = ledger.perform(Call::Clock { clock }, within(EXAMPLE).book_length());
+    reply.expect("a later clock");
+    ledger
+}

@@ -1,0 +1,15 @@
+//! Which stamps a window covers: the last ones up to the clock, as many as it has ticks (document
+//! 02, request One). No other place knows how a window opens.
+
+/// The first stamp that a window covers: the one above clock - window, or 0 where the window exceeds
+/// the clock. Nothing for window 0, which covers no stamp.
+pub fn opening(clock: u32, window: u32) -> Option<u64> {
+    let end = u64::from(clock) + 1;
+    (window > 0).then(|| end.saturating_sub(window.into()))
+}
+
+/// The window that opens at a stamp. Nothing where the stamp is ahead of the clock, or where no
+/// window is so long.
+pub fn window_from(clock: u32, opening: u32) -> Option<u32> {
+    clock.checked_sub(opening)?.checked_add(1)
+}

@@ -2,7 +2,7 @@
 -- clock empties, by how many intervals it goes on. Assumes nothing.
 use mathlib.Core.Bool.{Bool, true, false, _&&_, _||_}
 use mathlib.Core.Path.{_≡_, refl}
-use Prim.Native.Nat.{ℕ, _+_, _-_, _%_, _^_, _≤_, _<_}
+use Prim.Native.Nat.{ℕ, _+_, _%_, _^_, _≤_, _<_}
 use native.Mathlib.Nat.{le-refl}
 use native.Mathlib.Omega.{arith}
 use lib.Dec.{leb, ltb}
@@ -43,35 +43,36 @@ covers-none clock stamp = go (leb (opening clock 0) stamp) refl
     go true h = lt-leb stamp clock (omega (arith, leb-true (opening clock 0) stamp h))
     go false h = refl
 
--- windows read end to end, the earlier one `window` ticks before the later one: no stamp lies in both, and together they are one window
-module _ (clock window earlier stamp : ℕ) (h : window ≤ clock) where
-  ends-before : opening clock window ≤ stamp → covers (clock - window) earlier stamp ≡ false
-  ends-before above = go (leb (opening (clock - window) earlier) stamp)
+-- windows read end to end, the later one `window` ticks after the earlier one: no stamp lies in both, and together they are one window
+module _ (clock earlier window stamp : ℕ) where
+  ends-before : opening (clock + window) window ≤ stamp → covers clock earlier stamp ≡ false
+  ends-before above = go (leb (opening clock earlier) stamp)
     where
-      go : (t : Bool) → (t && leb stamp (clock - window)) ≡ false
-      go true = lt-leb stamp (clock - window) (omega arith)
+      go : (t : Bool) → (t && leb stamp clock) ≡ false
+      go true = lt-leb stamp clock (omega arith)
       go false = refl
 
-  pub covers-once : covers clock window stamp ≡ true → covers (clock - window) earlier stamp ≡ false
-  covers-once here = ends-before (leb-true (opening clock window) stamp (both here .0))
+  pub covers-once : covers (clock + window) window stamp ≡ true → covers clock earlier stamp ≡ false
+  covers-once here = ends-before (leb-true (opening (clock + window) window) stamp (both here .0))
 
-  pub covers-joined : covers clock (window + earlier) stamp ≡ (covers clock window stamp || covers (clock - window) earlier stamp)
-  covers-joined = go (leb (opening clock window) stamp) refl
+  pub covers-joined : covers (clock + window) (earlier + window) stamp ≡ (covers (clock + window) window stamp || covers clock earlier stamp)
+  covers-joined = go (leb (opening (clock + window) window) stamp) refl
     where
-      same : opening clock (window + earlier) ≡ opening (clock - window) earlier
+      same : opening (clock + window) (earlier + window) ≡ opening clock earlier
       same = omega arith
 
       alone : (t : Bool) → t ≡ (t || false)
       alone true = refl
       alone false = refl
 
-      go : (t : Bool) → leb (opening clock window) stamp ≡ t → covers clock (window + earlier) stamp ≡ ((t && leb stamp clock) || covers (clock - window) earlier stamp)
+      go : (t : Bool) → leb (opening (clock + window) window) stamp ≡ t
+          → covers (clock + window) (earlier + window) stamp ≡ ((t && leb stamp (clock + window)) || covers clock earlier stamp)
       go true e =
-          let above : opening clock window ≤ stamp = leb-true (opening clock window) stamp e in
-          rw (le-leb (opening clock (window + earlier)) stamp (omega arith), ends-before above) (alone (leb stamp clock))
+          let above : opening (clock + window) window ≤ stamp = leb-true (opening (clock + window) window) stamp e in
+          rw (le-leb (opening (clock + window) (earlier + window)) stamp (omega arith), ends-before above) (alone (leb stamp (clock + window)))
       go false e =
-          let below : stamp < opening clock window = leb-false (opening clock window) stamp e in
-          rw (same, le-leb stamp clock (omega arith), le-leb stamp (clock - window) (omega arith))
+          let below : stamp < opening (clock + window) window = leb-false (opening (clock + window) window) stamp e in
+          rw (same, le-leb stamp (clock + window) (omega arith), le-leb stamp clock (omega arith))
 
 -- late is a stamp below the opening of the longest window
 pub late-below : (s : Shape) (clock stamp : ℕ) → late s clock stamp ≡ ltb stamp (opening clock (2 ^ s .k))

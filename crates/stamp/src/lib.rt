@@ -29,7 +29,7 @@ pub fn parity(j: u32) -> u8
     (j % 2) as u8
 }
 
-// The first stamp of a window above 0: the first above clock - window, or 0 if the window exceeds the clock.
+// The first stamp of a window above 0, which is 0 if the window exceeds the clock.
 pub fn opening(clock: u32, window: u32) -> u32
     requires { ⌜ 0 < window ⌝ }
     ensures { λ r. ⌜ r ≡ opening clock window ⌝ }

@@ -106,11 +106,10 @@ uint32_t litres_delivery(uint32_t *book, size_t len, uint32_t grade, uint32_t st
                          uint32_t volume);
 
 /*
- * Writes to *sum the book's sum for a grade, in decilitres, over the last `window` ticks: the
- * stamps above clock - window up to the clock, or all from 0 if the window exceeds the clock.
- * Windows that lie end to end have no stamp in common. Window 0 has no stamp and gives 0. How exact
- * a sum is stands above. No word of the book changes. Of the grades' words only this one's are
- * inspected.
+ * Writes to *sum the book's sum for a grade, in decilitres, over the last `window` ticks, of which
+ * the clock's own is the last. If the window exceeds the clock, it starts at tick 0. Windows that
+ * lie end to end have no tick in common. Window 0 has none at all and gives 0. How exact a sum is
+ * stands above. No word of the book changes. Of the grades' words only this one's are inspected.
  * `sum` must point to a uint64_t that may be written and that lies outside the book. A refused call
  * does not write it.
  * Refused, in this order: 2 (under 8 words), 7, 2, 3, 5, 11.

@@ -13,7 +13,7 @@ use reference::{protocol, refusal};
 /// A run of so many books must show every kind of book, of damage and of answer.
 pub const BOOKS_FOR_ALL: u64 = 2_000;
 
-/// A run of so many calls at edges must show every kind of them.
+/// A run that met so many edges of windows and of lateness must show every kind of them.
 pub const EDGES_FOR_ALL: u64 = 8_000;
 
 /// Counts of a run.
@@ -62,7 +62,7 @@ impl Summary {
         self.books.total()
     }
 
-    /// How often each kind of call at an edge was made.
+    /// How often each kind of edge was met.
     pub fn edges(&self) -> &Tally {
         &self.edges
     }
@@ -90,6 +90,6 @@ impl Display for Summary {
         let (books, calls) = (self.books(), self.calls());
         write!(f, "{books} books ({}), {calls} calls, ", self.books)?;
         write!(f, "all equal; {}", self.answers)?;
-        write!(f, "; at edges of windows: {}", self.edges.total())
+        write!(f, "; edges met: {}", self.edges.total())
     }
 }

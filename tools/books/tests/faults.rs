@@ -1,4 +1,5 @@
-//! A usual run finds the faults that docs/SPECIFICATION.md lists in section 14.
+//! A usual run finds the faults that docs/SPECIFICATION.md lists in section 14. Those of windows and
+//! lateness are in windows.rs.
 
 mod wrong;
 

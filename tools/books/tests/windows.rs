@@ -99,18 +99,17 @@ fn late_by(late: impl Fn(Shape, u32, u32) -> bool) -> impl Fn(&mut [u32], Call) 
             book.copy_from_slice(&before);
             return Err(9);
         }
-        // An answer that is not the number shows, whatever the words are.
+        // The comparison finds an answer in place of a number by itself, so the words may stay.
         reply.or(Ok(Answer::Done))
     }
 }
 
 #[test]
 fn lateness_off_by_a_tick() {
-    let a_tick_less = |shape: Shape, clock: u32, stamp: u32| shape.is_late(clock, stamp + 1);
-    assert!(difference(late_by(a_tick_less)).is_some());
-    let a_tick_more =
-        |shape: Shape, clock: u32, stamp: u32| clock > 0 && shape.is_late(clock - 1, stamp);
-    assert!(difference(late_by(a_tick_more)).is_some());
+    let kept = |shape: Shape, clock: u32, stamp: u32| shape.is_late(clock, stamp + 1);
+    assert!(difference(late_by(kept)).is_some());
+    let early = |shape: Shape, clock: u32, stamp: u32| shape.is_late(clock + 1, stamp);
+    assert!(difference(late_by(early)).is_some());
 }
 
 /// Each kind of call at an edge occurs often. Of the questions some would answer something else if

@@ -70,6 +70,7 @@ fn question_cases(step: &Step, [grade, window]: [u32; 2], sum: u64) -> Cases {
     let level = half.serving_level(offset).unwrap();
     let mut coarser = half.levels[level..].iter();
     vec![
+        ("question: no tick", false),
         ("question: grown book", grown),
         ("question: current interval", grown && !older),
         ("question: interval before", grown && older),

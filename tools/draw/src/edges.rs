@@ -48,7 +48,7 @@ fn place(shape: Shape, clock: u32) -> Option<&'static str> {
         _ if clock == 0 => Some("0"),
         _ if clock == 1 => Some("1"),
         offset if offset == ticks - 1 => Some(last),
-        _ if clock < ticks => Some("in the first interval"),
+        _ if clock < ticks => Some("below 2^k - 1"),
         0 => Some(first),
         1 => Some(second),
         _ => None,
@@ -70,7 +70,7 @@ fn windows(shape: Shape, clock: u32, window: u32) -> Vec<&'static str> {
     equal.map(|(name, _)| name).collect()
 }
 
-/// The kinds of a question to a book whose window matters to a tick: a tick less or a tick more gives
+/// The kinds of a question that tell its window from a neighbour: a tick less or a tick more gives
 /// another sum. So a side that is wrong for one kind alone is found.
 pub fn telling(book: &[u32], call: Call, reply: Reply) -> Vec<String> {
     let (Call::Query { grade, window }, Ok(Answer::Sum(sum))) = (call, reply) else {
@@ -88,7 +88,11 @@ fn by_neighbours(kinds: Vec<String>, window: u32, differs: impl Fn(u32) -> bool)
     let neighbours = shorter.into_iter().chain([("a tick more", window + 1)]);
     let names = neighbours.filter(|(_, other)| differs(*other));
     names
-        .flat_map(|(name, _)| kinds.iter().map(move |kind| format!("{kind}, not {name}")))
+        .flat_map(|(name, _)| {
+            kinds
+                .iter()
+                .map(move |kind| format!("{kind}, told from {name}"))
+        })
         .collect()
 }
 

@@ -32,7 +32,7 @@ fn every_kind_has_its_clock() {
     };
     let clocks = ["window clock", "window clock + 1"];
     let (oldest, late) = ("oldest stamp", "stamp before the oldest");
-    for place in ["0", "1", "in the first interval", "2^k - 1"] {
+    for place in ["0", "1", "below 2^k - 1", "2^k - 1"] {
         assert_eq!(at(place), with(&[oldest, clocks[0], clocks[1]]), "{place}");
     }
     // The window of one tick more than the clock is too long from here on, then the clock's too.
@@ -53,10 +53,7 @@ fn kinds_of_questions() {
     assert_eq!(found(9, 8), ["window 2^k at clock 2^k + 1"]);
     let both = ["window clock at clock 2^k", "window 2^k at clock 2^k"];
     assert_eq!(found(8, 8), both);
-    assert_eq!(
-        found(4, 5),
-        ["window clock + 1 at clock in the first interval"]
-    );
+    assert_eq!(found(4, 5), ["window clock + 1 at clock below 2^k - 1"]);
     for (clock, window) in [(15, 2), (14, 0), (18, 8), (4, 6)] {
         assert_eq!(
             found(clock, window),
@@ -138,17 +135,20 @@ fn questions_that_tell_a_tick() {
         let reply = perform(&mut book, call);
         telling(&book, call, reply)
     };
-    assert_eq!(found(0), ["window 0 at clock 2^k - 1, not a tick more"]);
+    assert_eq!(
+        found(0),
+        ["window 0 at clock 2^k - 1, told from a tick more"]
+    );
     let three = [
-        "window clock at clock 2^k - 1, not a tick less",
-        "window 2^k - 1 at clock 2^k - 1, not a tick less",
-        "window clock at clock 2^k - 1, not a tick more",
-        "window 2^k - 1 at clock 2^k - 1, not a tick more",
+        "window clock at clock 2^k - 1, told from a tick less",
+        "window 2^k - 1 at clock 2^k - 1, told from a tick less",
+        "window clock at clock 2^k - 1, told from a tick more",
+        "window 2^k - 1 at clock 2^k - 1, told from a tick more",
     ];
     assert_eq!(found(3), three);
     let four = [
-        "window clock + 1 at clock 2^k - 1, not a tick less",
-        "window 2^k at clock 2^k - 1, not a tick less",
+        "window clock + 1 at clock 2^k - 1, told from a tick less",
+        "window 2^k at clock 2^k - 1, told from a tick less",
     ];
     assert_eq!(found(4), four);
     assert_eq!(found(2), Vec::<String>::new());
@@ -173,13 +173,13 @@ fn empty_book_tells_nothing() {
 fn all_that_can_be_told() {
     let all = all_telling();
     let count = |place: &str| {
-        let part = format!(" at clock {place}, not");
+        let part = format!(" at clock {place}, told");
         all.iter().filter(|kind| kind.contains(&part)).count()
     };
     for (place, kinds) in [
         ("0", 4),
         ("1", 6),
-        ("in the first interval", 7),
+        ("below 2^k - 1", 7),
         ("2^k - 1", 9),
         ("2^k", 9),
         ("2^k + 1", 7),

@@ -75,9 +75,8 @@ pub fn windows(random: &mut Random, clock: u32, ticks: &[u32]) -> Vec<u32> {
     });
     let mut windows: Vec<u32> = spread.collect();
     for _ in 0..AIMED {
-        let opening = random.pick(ticks) + random.between(0, 1);
-        // Window 0 where the tick lies after the clock.
-        let window = window_from(clock, opening).unwrap_or(0);
+        let opening = (random.pick(ticks) + random.between(0, 1)).min(clock);
+        let window = window_from(clock, opening).expect("no tick after the clock");
         windows.push(window.min(TICKS));
     }
     windows

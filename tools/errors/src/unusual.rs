@@ -1,9 +1,10 @@
 //! Orders that no forecourt sends: at random, by a pattern, and one that aims at the bound.
 
 use draw::random::Random;
+use draw::shapes::within;
 use reference::window::window_from;
 
-use crate::observe::{CAPACITY, TICKS};
+use crate::observe::{CAPACITY, SITE, TICKS};
 use crate::order::{windows, Kind, Order, Step};
 
 /// Deliveries of an order.
@@ -29,7 +30,8 @@ pub fn late(seed: u64) -> Order {
     let (mut steps, mut stamps) = (Vec::new(), Vec::new());
     for number in 0..COUNT {
         let clock = START + number * (TICKS / COUNT);
-        let stamp = clock - random.between(TICKS / 2, TICKS - 1);
+        let longest = clock - within(SITE).oldest(clock);
+        let stamp = clock - random.between(TICKS / 2, longest);
         stamps.push(stamp);
         steps.push(Step::Clock(clock));
         steps.push(Step::Delivery {

@@ -49,8 +49,8 @@ pub fn clock(book: &mut [u32], clock: u32) -> Result<(), Refused> {
     accepted(unsafe { archive::litres_clock(words, len, clock) })
 }
 
-/// Records a delivery of so many decilitres of a grade at a tick, which is late from 2^k ticks behind
-/// the clock on.
+/// Records a delivery of so many decilitres of a grade at a tick. A tick 2^k or more behind the clock is
+/// late.
 pub fn delivery(book: &mut [u32], grade: u32, stamp: u32, volume: u32) -> Result<(), Refused> {
     let (words, len) = (book.as_mut_ptr(), book.len());
     // SAFETY: as for `make`.

@@ -83,7 +83,7 @@ fn window_0_answers_0_after_every_refusal() {
     assert_eq!(query(&book, 1, 0), Err(Refused(3)));
     assert_eq!(query(&book[..89], 0, 0), Err(Refused(2)));
     assert_eq!(query(&book[..7], 0, 0), Err(Refused(2)));
-    // A total that no level adds up to, then a head that is none as well.
+    // A total that no level adds up to; then an unsound head too.
     book[8] += 1;
     assert_eq!(query(&book, 0, 0), Err(Refused(11)));
     assert_eq!(query(&book, 1, 0), Err(Refused(3)));
@@ -91,7 +91,7 @@ fn window_0_answers_0_after_every_refusal() {
     assert_eq!(query(&book, 0, 0), Err(Refused(7)));
 }
 
-/// At clock 0, in the first interval, and next to the ends of the first ones.
+/// In the first interval and at the first tick after it; later such a window is too long.
 #[test]
 fn windows_as_long_as_the_clock() {
     for now in 0..=9 {

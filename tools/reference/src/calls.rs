@@ -85,7 +85,7 @@ pub fn make(words: &mut [u32], k: u32, n: u32, m: u32, g: u32) -> Result<(), u32
     Ok(())
 }
 
-/// Moves the clock on and empties the histograms whose interval has passed out of reach.
+/// Moves the clock on. Where it enters another interval, only that one and the one before it are kept.
 pub fn clock(words: &mut [u32], new: u32) -> Result<(), u32> {
     let (shape, old) = open(words)?;
     when(new > Shape::CLOCK_MAX, refusal::CLOCK_LIMIT)?;

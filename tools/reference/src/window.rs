@@ -1,8 +1,8 @@
-//! Which stamps a window covers: the last ones up to the clock, as many as it has ticks (document
-//! 02, request One). No other place knows how a window opens.
+//! Which stamps a window covers (document 02, request One): a window of w covers the last w stamps, of
+//! which the clock is the last. No other place knows how a window opens.
 
-/// The first stamp that a window covers, or 0 where the window exceeds the clock. Nothing for window 0,
-/// which covers no stamp.
+/// The first stamp that a window covers, which is 0 where the window exceeds the clock. Nothing for
+/// window 0, which covers no stamp.
 pub fn opening(clock: u32, window: u32) -> Option<u64> {
     let end = u64::from(clock) + 1;
     (window > 0).then(|| end.saturating_sub(window.into()))

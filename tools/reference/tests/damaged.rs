@@ -35,7 +35,7 @@ fn sound_words_that_no_run_reaches_are_accepted() {
     assert_eq!(query(&words, 0, 1), Ok(4));
     deliver(&mut words, 0, 1, 2).unwrap();
     assert_eq!(query(&words, 0, 1), Ok(6));
-    // Not even what stands ahead of the clock.
+    // Window 0 does not count what lies past the clock either.
     assert_eq!(query(&words, 0, 0), Ok(0));
     let expected = [
         [2, 0, 1, 1, 2, 3, 1, 4],

@@ -328,7 +328,7 @@ fn lines_cross_the_chunks_of_the_program() {
     let mut input = b"m 2 2 4 1\n".to_vec();
     let mut expected = "ok\n".to_string();
     for clock in 0..20_000 {
-        input.extend(format!("c {clock}\nq 0 0\n\n").bytes());
+        input.extend(format!("c {clock}\nq 0 1\n\n").bytes());
         expected.push_str("ok\n= 0\nunread\n");
     }
     assert_eq!(program(input), expected.as_bytes());

@@ -216,7 +216,8 @@ fn delivery_on_the_seam_is_counted_once() {
     }
 }
 
-/// At an interval's last tick the longest window is that interval; else it opens in the one before.
+/// At an interval's last tick the longest window is that interval; at its other ticks it opens in the
+/// one before, or at 0.
 #[test]
 fn longest_window_as_the_clock_passes_the_edges() {
     let mut words = vec![0; Shape::new(2, 4, 6, 1).unwrap().book_length()];

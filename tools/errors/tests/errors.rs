@@ -39,8 +39,8 @@ fn windows_are_allowed_and_open_at_the_given_ticks() {
     let mut random = Random::new(1);
     let clock = TICKS + 5;
     let windows = windows(&mut random, clock, &[0, 7, TICKS, clock]);
-    assert!(windows.iter().all(|window| *window <= TICKS));
-    for expected in [0, 1, 5, 6, TICKS - 2, TICKS - 1, TICKS] {
+    assert!(windows.iter().all(|window| (1..=TICKS).contains(window)));
+    for expected in [1, 5, 6, TICKS - 2, TICKS - 1, TICKS] {
         assert!(windows.contains(&expected), "{expected}");
     }
 }

@@ -270,7 +270,8 @@ fn makes_of_other_shapes_in_the_same_words() {
         let mut run = Run::new(start);
         let mut source = source(seed, 120, 4);
         source.makes = Makes::Length(start.book_length());
-        run.steps(&mut source, 8000);
+        // A make comes soon, and in the first interval half of the windows are exact edges.
+        run.steps(&mut source, 24_000);
         for (sum, refused) in seen.refused.iter_mut().zip(run.seen.refused) {
             *sum += refused;
         }

@@ -270,7 +270,8 @@ fn makes_of_other_shapes_in_the_same_words() {
         let mut run = Run::new(start);
         let mut source = source(seed, 120, 4);
         source.makes = Makes::Length(start.book_length());
-        // A make comes soon, and in the first interval half of the windows are exact edges.
+        // Makes keep the clock in the first intervals, where half of the windows are drawn at edges
+        // and most of these are exact.
         run.steps(&mut source, 24_000);
         for (sum, refused) in seen.refused.iter_mut().zip(run.seen.refused) {
             *sum += refused;

@@ -36,13 +36,6 @@ power-requires c κs =
     let d = c .before .before in
     omega (arith, open-proper (d .args .book .now) (d .args .s) (d .args .clock) (d .pre) .limits .high-k)
 
--- the question is accepted only if no test holds
-returns-4 : tie.Need-returns-4
-returns-4 c =
-    let d = c .before .before .before .before .before .before .before in
-    told-judgement _ _ _ (asked (c .before) ∙ passed _ _ (c .before .before .before .if1 .left) ∙ passed _ _ (c .before .before .if2 .left) ∙ passed _ _ (c .if3 .left), d .pre .same, d .pre .now)
-
--- each refusal is the first whose test holds
 returns : tie.Need-returns
 returns c = told-judgement _ _ _ (told (c .before) ∙ holds _ _ (c .if1 .taken))
 
@@ -55,6 +48,13 @@ block-sound-requires c κs =
     open-inside (d .args .book .now) (d .args .s) (d .args .clock) (d .pre) (d .args .grade)
     (ltb-true (d .args .grade) (d .args .s .g) (not-false _ (c .before .if1 .left)))
 
+-- the question is accepted only if no test holds
+returns-4 : tie.Need-returns-4
+returns-4 c =
+    let d = c .before .before .before .before .before .before .before in
+    told-judgement _ _ _ (asked (c .before) ∙ passed _ _ (c .before .before .before .if1 .left) ∙ passed _ _ (c .before .before .if2 .left) ∙ passed _ _ (c .if3 .left), d .pre .same, d .pre .now)
+
+-- 11 is the last refusal
 returns-3 : tie.Need-returns-3
 returns-3 c = told-judgement _ _ _ (asked (c .before) ∙ passed _ _ (c .before .before .before .if1 .left) ∙ passed _ _ (c .before .before .if2 .left) ∙ holds _ _ (c .if3 .taken))
 

@@ -41,13 +41,13 @@ pub record Due (ws : List ℕ) (s : Shape) (clock grade stamp volume : ℕ) : Ty
   pub come : stamp ≤ clock
   pub early : clock < stamp + 2 ^ s .k
 
--- ---- the first refusal of a list, by the fact of each test
+-- ---- the first refusal is the one whose test holds, or it comes later
 
-pub holds : {a : Bool} (x y : ℕ) → a ≡ true → cond a x y ≡ x
-holds {a} x y e = rw e
+pub first-here : {a : Bool} (x y : ℕ) → a ≡ true → cond a x y ≡ x
+first-here {a} x y e = rw e
 
-pub passed : {a : Bool} (x y : ℕ) → a ≡ false → cond a x y ≡ y
-passed {a} x y e = rw e
+pub first-later : {a : Bool} (x y : ℕ) → a ≡ false → cond a x y ≡ y
+first-later {a} x y e = rw e
 
 -- ---- the refusals with which every call but make begins
 

@@ -1,19 +1,15 @@
 //! Random calls around a book: mostly accepted ones, many at an edge, and every kind of refused one.
 
+mod delivery;
+mod question;
+
 use reference::calls::Call;
 use reference::shape::Shape;
-use reference::window::window_from;
 
 use crate::pace::Pace;
 use crate::random::Random;
-use crate::shapes::{quick_volume, Makes, Numbers};
+use crate::shapes::{Makes, Numbers};
 use crate::view::View;
-
-/// Volumes above what the second program takes in little time are cut, some only far above it.
-const PATIENCE: u64 = 20;
-/// Volumes up to here fill an interval exactly, however long that takes.
-const QUICK_FILL: u64 = 4_096;
-const VOLUME_MAX: u64 = Shape::VOLUME_MAX as u64;
 
 /// A source of calls, for one book after another.
 pub struct Source {
@@ -225,166 +221,11 @@ impl Caller<'_> {
         }
     }
 
-    /// A delivery, or a clock where the interval is full and would mostly refuse.
-    pub fn delivery(&mut self) -> Call {
-        let (grade, stamp) = (self.grade(), self.stamp());
-        let room = self.view.room(grade, stamp);
-        if room == 0 && grade < self.shape().g() && !self.random.one_in(4) {
-            let clock = self.leap();
-            return Call::Clock { clock };
-        }
-        Call::Delivery {
-            grade,
-            stamp,
-            volume: self.volume(room),
-        }
-    }
-
-    /// Anywhere that is not late, often recent or where something stands already.
-    fn stamp(&mut self) -> u32 {
-        if self.is_edge() || self.is_beside_border() && self.random.one_in(4) {
-            return self.edge_stamp();
-        }
-        let (now, oldest) = (self.now(), self.oldest());
-        let (near, any) = (self.near_landmark(), self.random.between(oldest, now));
-        let recent = oldest.max(now.saturating_sub(self.ticks() / 8 + 1));
-        match self.random.below(8) {
-            0..=1 if (oldest..=now).contains(&near) => near,
-            2..=3 => self.random.between(recent, now),
-            _ => any,
-        }
-    }
-
     /// The stamp of what stands in the book or a tick beside it; the clock where nothing does.
     fn near_landmark(&mut self) -> u32 {
         let landmark = self.view.landmark(self.random).unwrap_or(self.now());
         let side = self.random.pick(&[0, 0, 0, 1, u32::MAX]);
         landmark.wrapping_add(side)
-    }
-
-    /// Next to the clock, to the oldest stamp, to the ends of the intervals or of the numbers.
-    fn edge_stamp(&mut self) -> u32 {
-        let (now, oldest, ticks) = (self.now(), self.oldest(), self.ticks());
-        let (start, next) = (self.start_of_interval(), self.next_interval());
-        let before = start.saturating_sub(ticks);
-        let random = &mut *self.random;
-        let (few, any) = (random.between(1, 3), random.word());
-        match random.below(8) {
-            0 => now.wrapping_add(few),
-            1..=2 => oldest.saturating_sub(random.pick(&[1, 1, few])),
-            3..=4 => random.pick(&[now, oldest, oldest, oldest.wrapping_add(1)]),
-            5 => random.pick(&[start, start.saturating_sub(1), before, before.max(1) - 1]),
-            6 => random.pick(&[
-                u32::MAX,
-                u32::MAX - ticks,
-                u32::MAX - ticks + 1,
-                1 << 31,
-                next,
-            ]),
-            _ => random.pick(&[0, ticks, ticks - 1, any]),
-        }
-    }
-
-    /// Mostly small, so that an interval takes several deliveries and its levels fill one by one.
-    fn volume(&mut self, room: u64) -> u32 {
-        if self.floods() {
-            return room.clamp(1, VOLUME_MAX) as u32;
-        }
-        let drawn = if self.is_edge() {
-            self.edge_volume(room)
-        } else {
-            let most = self.pace.volume.min(self.shape().capacity() / 8).max(1);
-            (1 + self.random.below(most)).min(room).max(1)
-        };
-        // Refused volumes cost nothing, accepted ones by the decilitre.
-        let most = if drawn > room || drawn > VOLUME_MAX {
-            u32::MAX.into()
-        } else if drawn == room && room <= QUICK_FILL {
-            room
-        } else {
-            quick_volume(self.shape()) * self.random.pick(&[1, PATIENCE])
-        };
-        drawn.min(most) as u32
-    }
-
-    /// None, the most, as much as there is room for, one more, or about a power of two, where
-    /// weights halve.
-    fn edge_volume(&mut self, room: u64) -> u64 {
-        let capacity = self.shape().capacity();
-        let random = &mut *self.random;
-        match random.below(8) {
-            0 => 0,
-            1 => random.pick(&[VOLUME_MAX + 1, VOLUME_MAX + 2, 1 << 31, u32::MAX.into()]),
-            2 => VOLUME_MAX,
-            3 => room,
-            4 => room + 1,
-            5 => random.below(capacity + 1),
-            _ => (1 << random.between(1, 14)) + random.below(3) - 1,
-        }
-    }
-
-    /// Whether this volume should be as large as can be; only where a few such fill an interval.
-    fn floods(&mut self) -> bool {
-        let rarity = match self.shape().m() {
-            16 => 16,
-            17..=18 => 8,
-            _ => return false,
-        };
-        let quick = quick_volume(self.shape()) * PATIENCE >= VOLUME_MAX;
-        self.pace.flood && quick && self.random.one_in(rarity)
-    }
-
-    /// A question.
-    pub fn question(&mut self) -> Call {
-        Call::Query {
-            grade: self.grade(),
-            window: self.window(),
-        }
-    }
-
-    /// Any window, often one that opens where something stands or a tick beside it.
-    fn window(&mut self) -> u32 {
-        let (now, ticks) = (self.now(), self.ticks());
-        // In the first interval a window can be the clock or exceed it.
-        let many_edges = self.is_beside_border() || now < ticks;
-        if self.is_edge() || self.is_edge() {
-            let long = self.random.one_in(4);
-            return if long {
-                self.long_window()
-            } else {
-                self.edge_window()
-            };
-        }
-        if many_edges && self.random.one_in(2) {
-            return self.edge_window();
-        }
-        let (near, any) = (self.near_landmark(), self.random.between(0, ticks));
-        match window_from(now, near) {
-            Some(window) if window <= ticks && self.random.one_in(3) => window,
-            _ => any,
-        }
-    }
-
-    /// Of no tick or a few, about an interval long, or opening about the start of the current interval
-    /// or of time.
-    fn edge_window(&mut self) -> u32 {
-        let (now, ticks) = (self.now(), self.ticks());
-        let inside = now - self.start_of_interval();
-        let random = &mut *self.random;
-        match random.below(6) {
-            0..=1 => random.pick(&[0, 0, 1, 1, 2, 3]),
-            2..=3 => random.pick(&[ticks, ticks, ticks - 1, ticks - 1, ticks - 2]),
-            4 => random.pick(&[inside, inside + 1, inside + 2]),
-            _ => random.pick(&[now, now.wrapping_add(1), now.wrapping_sub(1)]),
-        }
-    }
-
-    /// Longer than an interval.
-    fn long_window(&mut self) -> u32 {
-        let ticks = self.ticks();
-        let far = [2 * ticks, 65_536, 1 << 31, u32::MAX, u32::MAX - ticks];
-        let far = self.random.pick(&far);
-        self.random.pick(&[ticks + 1, far])
     }
 
     /// A call with several reasons to be refused, of which only the first one counts.

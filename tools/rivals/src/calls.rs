@@ -42,7 +42,7 @@ pub trait Calls {
         Ok(())
     }
 
-    /// Moves the clock on and empties the halves whose interval has passed out of reach.
+    /// Moves the clock on. Where it enters another interval, only that one and the one before it are kept.
     fn clock(book: &mut [u32], clock: u32) -> Result<(), u32> {
         let (shape, old) = open(book)?;
         when(clock > Shape::CLOCK_MAX, refusal::CLOCK_LIMIT)?;

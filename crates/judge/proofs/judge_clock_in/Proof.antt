@@ -6,7 +6,7 @@ use Rattle.model.specs.declared.Call.the-variants.{Clock}
 use Rattle.model.specs.Sound.{maxClock}
 use Rattle.book.specs.Head.{told-judgement}
 use Rattle.book.specs.Judgement.{firstRefusal}
-use Rattle.judge.specs.Judge.{holds, passed, clock-judges, open-size, open-proper}
+use Rattle.judge.specs.Judge.{first-here, first-later, clock-judges, open-size, open-proper}
 use Rattle.judge.proofs.judge_clock_in.Statement.{statement}
 use Rattle.judge.proofs.judge_clock_in.Tie as tie
 
@@ -20,12 +20,12 @@ told c =
 returns : tie.Need-returns
 returns c =
     let d = c .before .before in
-    told-judgement _ _ _ (clock-judges (d .args .book .now) (d .args .s) (d .args .clock) (d .pre) (d .args .to) ∙ holds _ _ (c .if1 .taken))
+    told-judgement _ _ _ (clock-judges (d .args .book .now) (d .args .s) (d .args .clock) (d .pre) (d .args .to) ∙ first-here _ _ (c .if1 .taken))
 
 returns-2 : tie.Need-returns-2
 returns-2 c =
     let d = c .before .before .before in
-    told-judgement _ _ _ (clock-judges (d .args .book .now) (d .args .s) (d .args .clock) (d .pre) (d .args .to) ∙ passed _ _ (c .before .if1 .left) ∙ holds _ _ (c .if2 .taken))
+    told-judgement _ _ _ (clock-judges (d .args .book .now) (d .args .s) (d .args .clock) (d .pre) (d .args .to) ∙ first-later _ _ (c .before .if1 .left) ∙ first-here _ _ (c .if2 .taken))
 
 all-sound-requires : tie.Need-all-sound-requires
 all-sound-requires c κs =
@@ -34,12 +34,12 @@ all-sound-requires c κs =
     (open-size (a .book .now) (a .s) (a .clock) (d .pre), open-proper (a .book .now) (a .s) (a .clock) (d .pre))
 
 returns-3 : tie.Need-returns-3
-returns-3 c = told-judgement _ _ _ (told (c .before) ∙ passed _ _ (c .before .before .before .if1 .left) ∙ passed _ _ (c .before .before .if2 .left) ∙ holds _ _ (c .if3 .taken))
+returns-3 c = told-judgement _ _ _ (told (c .before) ∙ first-later _ _ (c .before .before .before .if1 .left) ∙ first-later _ _ (c .before .before .if2 .left) ∙ first-here _ _ (c .if3 .taken))
 
 returns-4 : tie.Need-returns-4
 returns-4 c =
     let d = c .before .before .before .before .before in
-    told-judgement _ _ _ (told (c .before) ∙ passed _ _ (c .before .before .before .if1 .left) ∙ passed _ _ (c .before .before .if2 .left) ∙ passed _ _ (c .if3 .left), d .pre .same, d .pre .now)
+    told-judgement _ _ _ (told (c .before) ∙ first-later _ _ (c .before .before .before .if1 .left) ∙ first-later _ _ (c .before .before .if2 .left) ∙ first-later _ _ (c .if3 .left), d .pre .same, d .pre .now)
 
 pub judge-clock-in-spec : {M : Type 1} → statement M
 judge-clock-in-spec = tie.close (tie.spec returns returns-2 all-sound-requires returns-3 returns-4)

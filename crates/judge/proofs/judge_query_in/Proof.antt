@@ -10,7 +10,7 @@ use Rattle.model.specs.Words.{blockPart}
 use Rattle.model.specs.Sound.{soundBlock}
 use Rattle.book.specs.Head.{told-judgement}
 use Rattle.book.specs.Judgement.{firstRefusal}
-use Rattle.judge.specs.Judge.{holds, passed, query-judges, open-proper, open-inside}
+use Rattle.judge.specs.Judge.{first-here, first-later, query-judges, open-proper, open-inside}
 use Rattle.judge.proofs.judge_query_in.Statement.{statement}
 use Rattle.judge.proofs.judge_query_in.Tie as tie
 
@@ -37,10 +37,10 @@ power-requires c κs =
     omega (arith, open-proper (d .args .book .now) (d .args .s) (d .args .clock) (d .pre) .limits .high-k)
 
 returns : tie.Need-returns
-returns c = told-judgement _ _ _ (told (c .before) ∙ holds _ _ (c .if1 .taken))
+returns c = told-judgement _ _ _ (told (c .before) ∙ first-here _ _ (c .if1 .taken))
 
 returns-2 : tie.Need-returns-2
-returns-2 c = told-judgement _ _ _ (told (c .before .before) ∙ passed _ _ (c .before .if1 .left) ∙ holds _ _ (c .if2 .taken))
+returns-2 c = told-judgement _ _ _ (told (c .before .before) ∙ first-later _ _ (c .before .if1 .left) ∙ first-here _ _ (c .if2 .taken))
 
 block-sound-requires : tie.Need-block-sound-requires
 block-sound-requires c κs =
@@ -52,11 +52,11 @@ block-sound-requires c κs =
 returns-4 : tie.Need-returns-4
 returns-4 c =
     let d = c .before .before .before .before .before .before .before in
-    told-judgement _ _ _ (asked (c .before) ∙ passed _ _ (c .before .before .before .if1 .left) ∙ passed _ _ (c .before .before .if2 .left) ∙ passed _ _ (c .if3 .left), d .pre .same, d .pre .now)
+    told-judgement _ _ _ (asked (c .before) ∙ first-later _ _ (c .before .before .before .if1 .left) ∙ first-later _ _ (c .before .before .if2 .left) ∙ first-later _ _ (c .if3 .left), d .pre .same, d .pre .now)
 
 -- 11 is the last refusal
 returns-3 : tie.Need-returns-3
-returns-3 c = told-judgement _ _ _ (asked (c .before) ∙ passed _ _ (c .before .before .before .if1 .left) ∙ passed _ _ (c .before .before .if2 .left) ∙ holds _ _ (c .if3 .taken))
+returns-3 c = told-judgement _ _ _ (asked (c .before) ∙ first-later _ _ (c .before .before .before .if1 .left) ∙ first-later _ _ (c .before .before .if2 .left) ∙ first-here _ _ (c .if3 .taken))
 
 pub judge-query-in-spec : {M : Type 1} → statement M
 judge-query-in-spec = tie.close (tie.spec cast-grades power-requires returns returns-2 block-sound-requires returns-3 returns-4)

@@ -11,7 +11,7 @@ use Rattle.model.specs.declared.Call.the-variants.{Delivery}
 use Rattle.model.specs.Block.{late}
 use Rattle.book.specs.Head.{told-judgement}
 use Rattle.book.specs.Judgement.{firstRefusal}
-use Rattle.judge.specs.Judge.{holds, passed, roomRefusal, delivery-judges, open-proper, open-clock}
+use Rattle.judge.specs.Judge.{first-here, first-later, roomRefusal, delivery-judges, open-proper, open-clock}
 use Rattle.judge.proofs.admit.judge_delivery_in.Statement.{statement}
 use Rattle.judge.proofs.admit.judge_delivery_in.Tie as tie
 
@@ -30,16 +30,16 @@ is-outside-requires : tie.Need-is-outside-requires
 is-outside-requires c κs = search needs
 
 returns : tie.Need-returns
-returns c = told-judgement _ _ _ (told (c .before) ∙ holds _ _ (c .if1 .taken))
+returns c = told-judgement _ _ _ (told (c .before) ∙ first-here _ _ (c .if1 .taken))
 
 returns-2 : tie.Need-returns-2
-returns-2 c = told-judgement _ _ _ (told (c .before .before) ∙ passed _ _ (c .before .if1 .left) ∙ holds _ _ (c .if2 .taken))
+returns-2 c = told-judgement _ _ _ (told (c .before .before) ∙ first-later _ _ (c .before .if1 .left) ∙ first-here _ _ (c .if2 .taken))
 
 returns-3 : tie.Need-returns-3
 returns-3 c =
     let o = c .before .before .before in
     let a = o .before .before .before .args in
-    told-judgement _ _ _ (told o ∙ passed _ _ (c .before .before .if1 .left) ∙ passed _ _ (c .before .if2 .left) ∙ holds _ _ (lt-ltb (a .clock) (a .stamp) (c .if3 .taken)))
+    told-judgement _ _ _ (told o ∙ first-later _ _ (c .before .before .if1 .left) ∙ first-later _ _ (c .before .if2 .left) ∙ first-here _ _ (lt-ltb (a .clock) (a .stamp) (c .if3 .taken)))
 
 power-requires : tie.Need-power-requires
 power-requires c κs =
@@ -57,7 +57,7 @@ returns-4 c =
     let o = e .before .before .before in
     let a = o .before .before .before .args in
     let gone : a .stamp + 2 ^ a .s .k ≤ a .clock = omega (arith, c .before .power .ensures, c .if4 .taken) in
-    told-judgement _ _ _ (told o ∙ passed _ _ (e .before .before .if1 .left) ∙ passed _ _ (e .before .if2 .left) ∙ passed _ _ (le-ltb (a .clock) (a .stamp) (e .if3 .left)) ∙ holds _ _ (le-leb (a .stamp + 2 ^ a .s .k) (a .clock) gone))
+    told-judgement _ _ _ (told o ∙ first-later _ _ (e .before .before .if1 .left) ∙ first-later _ _ (e .before .if2 .left) ∙ first-later _ _ (le-ltb (a .clock) (a .stamp) (e .if3 .left)) ∙ first-here _ _ (le-leb (a .stamp + 2 ^ a .s .k) (a .clock) gone))
 
 judge-room-requires : tie.Need-judge-room-requires
 judge-room-requires c κs =

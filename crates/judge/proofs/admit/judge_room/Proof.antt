@@ -4,7 +4,7 @@ use mathlib.Core.Path.{_≡_, _∙_}
 use Rattle.model.specs.declared.Call.the-variants.{Delivery}
 use Rattle.book.specs.Head.{told-judgement}
 use Rattle.book.specs.Judgement.{firstRefusal}
-use Rattle.judge.specs.Judge.{holds, passed, due-judges, due-inside}
+use Rattle.judge.specs.Judge.{first-here, first-later, due-judges, due-inside}
 use Rattle.judge.proofs.admit.judge_room.Statement.{statement}
 use Rattle.judge.proofs.admit.judge_room.Tie as tie
 
@@ -20,15 +20,15 @@ block-full-requires : tie.Need-block-full-requires
 block-full-requires c κs = due-inside (c .before .before .pre)
 
 returns : tie.Need-returns
-returns c = told-judgement _ _ _ (room (c .before) ∙ holds _ _ (c .if1 .taken))
+returns c = told-judgement _ _ _ (room (c .before) ∙ first-here _ _ (c .if1 .taken))
 
 returns-2 : tie.Need-returns-2
-returns-2 c = told-judgement _ _ _ (room (c .before .before) ∙ passed _ _ (c .before .if1 .left) ∙ holds _ _ (c .if2 .taken))
+returns-2 c = told-judgement _ _ _ (room (c .before .before) ∙ first-later _ _ (c .before .if1 .left) ∙ first-here _ _ (c .if2 .taken))
 
 returns-3 : tie.Need-returns-3
 returns-3 c =
     let book = c .before .before .before .before .before .pre .book in
-    told-judgement _ _ _ (room (c .before .before) ∙ passed _ _ (c .before .if1 .left) ∙ passed _ _ (c .if2 .left), book .same, book .now)
+    told-judgement _ _ _ (room (c .before .before) ∙ first-later _ _ (c .before .if1 .left) ∙ first-later _ _ (c .if2 .left), book .same, book .now)
 
 pub judge-room-spec : {M : Type 1} → statement M
 judge-room-spec = tie.close (tie.spec block-sound-requires block-full-requires returns returns-2 returns-3)

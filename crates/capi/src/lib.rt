@@ -1,8 +1,10 @@
-// The calls for programs in C and Rust: SPECIFICATION 12. Each takes a book as a pointer and a length, and returns 0 or the number of the
-// refusal.
+// The calls for programs in C and Rust: SPECIFICATION 12. A slice is a pointer and a length for them. Each call but `litres_words` returns 0
+// or the number of the refusal.
 use model::Answer;
 use shape::Checked;
 use shape::Shape;
+use trace::Found;
+use words::wide;
 ghost use mathlib.Core.Path.{_≡_};
 ghost use mathlib.Core.Bool.{cond};
 ghost use Rattle.shape.specs.Limits.{within, shaped};
@@ -10,7 +12,9 @@ ghost use Rattle.shape.specs.Layout.{bookWords};
 ghost use Rattle.model.specs.declared.Call.the-variants as Call;
 ghost use Rattle.model.specs.Reply.{replyOf};
 ghost use Rattle.model.specs.Calls.{perform};
-ghost use Rattle.capi.specs.Told.{codeOf, sumOf};
+ghost use Rattle.model.specs.Trace.{dayReply};
+ghost use Rattle.model.specs.Replay.{replay};
+ghost use Rattle.capi.specs.Told.{codeOf, sumOf, placeOf, replayOf};
 
 // How many words a book of this shape needs; 0 if the shape is outside its limits.
 #[no_mangle]
@@ -23,35 +27,25 @@ pub extern "C" fn litres_words(k: u32, n: u32, m: u32, g: u32) -> usize
     }
 }
 
-fn code(answer: Answer) -> u32
-    ensures { λ r. ⌜ r ≡ replyOf answer .number ⌝ }
-{
-    match answer {
-        Answer::Done => 0,
-        Answer::Sum(_) => 0,
-        Answer::Refused(why) => codes::number(why),
-    }
-}
-
 #[no_mangle]
 pub extern "C" fn litres_make(book: &mut [u32], k: u32, n: u32, m: u32, g: u32) -> u32
     ensures { λ r. ⌜ (r, now (book .exit)) ≡ codeOf (perform (now (book .entry)) (Call.Make k n m g)) ⌝ }
 {
-    code(summary::make(book, k, n, m, g))
+    codes::answer_number(summary::make(book, k, n, m, g))
 }
 
 #[no_mangle]
 pub extern "C" fn litres_clock(book: &mut [u32], clock: u32) -> u32
     ensures { λ r. ⌜ (r, now (book .exit)) ≡ codeOf (perform (now (book .entry)) (Call.Clock clock)) ⌝ }
 {
-    code(summary::clock(book, clock))
+    codes::answer_number(summary::clock(book, clock))
 }
 
 #[no_mangle]
 pub extern "C" fn litres_delivery(book: &mut [u32], grade: u32, stamp: u32, volume: u32) -> u32
     ensures { λ r. ⌜ (r, now (book .exit)) ≡ codeOf (perform (now (book .entry)) (Call.Delivery grade stamp volume)) ⌝ }
 {
-    code(summary::delivery(book, grade, stamp, volume))
+    codes::answer_number(summary::delivery(book, grade, stamp, volume))
 }
 
 // `sum` is written only if the question is answered.
@@ -67,4 +61,31 @@ pub extern "C" fn litres_query(book: &[u32], grade: u32, window: u32, sum: &mut 
         }
         Answer::Refused(why) => codes::number(why),
     }
+}
+
+// Where the day starts in the trace, and how many words it has; both 0 if it is refused.
+#[no_mangle]
+pub extern "C" fn litres_day(trace: &[u32], day: u32, start: &mut usize, length: &mut usize) -> u32
+    ensures { λ r. ⌜ (r, now (start .exit), now (length .exit)) ≡ placeOf (dayReply (now (trace .entry)) day) ⌝ }
+{
+    match trace::judge_day(trace, day) {
+        Found::Day(pair) => {
+            *start = wide(pair.start);
+            *length = wide(pair.length);
+            0
+        }
+        Found::Refused(why) => {
+            *start = 0;
+            *length = 0;
+            codes::number(why)
+        }
+    }
+}
+
+// `book` and `answers` are written only if the replay is accepted.
+#[no_mangle]
+pub extern "C" fn litres_replay(book: &mut [u32], trace: &[u32], day: u32, answers: &mut [u32]) -> u32
+    ensures { λ r. ⌜ (r, now (book .exit), now (answers .exit)) ≡ replayOf (replay (now (book .entry)) (now (trace .entry)) day (now (answers .entry))) ⌝ }
+{
+    codes::answer_number(replay::replay(book, trace, day, answers))
 }

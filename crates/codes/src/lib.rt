@@ -1,7 +1,8 @@
-// The number of a refusal (SPECIFICATION 6.2), used by `text` and `capi`.
+// The number of a refusal (SPECIFICATION 6.2) and of an answer (5.1), used by `text`, `replay` and `capi`.
+use model::Answer;
 use model::Refusal;
 ghost use mathlib.Core.Path.{_≡_};
-ghost use Rattle.model.specs.Reply.{numberOf};
+ghost use Rattle.model.specs.Reply.{numberOf, replyOf};
 
 pub fn number(why: Refusal) -> u32
     ensures { λ r. ⌜ r ≡ numberOf why ⌝ }
@@ -19,5 +20,19 @@ pub fn number(why: Refusal) -> u32
         Refusal::Back => 10,
         Refusal::Block => 11,
         Refusal::Full => 12,
+        Refusal::Trace => 13,
+        Refusal::Day => 14,
+        Refusal::Room => 15,
+    }
+}
+
+// 0 where the call is accepted.
+pub fn answer_number(answer: Answer) -> u32
+    ensures { λ r. ⌜ r ≡ replyOf answer .number ⌝ }
+{
+    match answer {
+        Answer::Done => 0,
+        Answer::Sum(_) => 0,
+        Answer::Refused(why) => number(why),
     }
 }

@@ -13,7 +13,7 @@ use Rattle.shape.specs.Layout.{headLen, bookWords}
 use Rattle.model.specs.declared.Call.{Call}
 use Rattle.model.specs.declared.Call.the-variants.{Make, Clock, Delivery, Query}
 use Rattle.model.specs.declared.Refusal.{Refusal}
-use Rattle.model.specs.declared.Refusal.the-variants.{Shape as NoShape, Length, Grade, Volume, Window, Limit, Head, Ahead, Late, Back, Block, Full}
+use Rattle.model.specs.declared.Refusal.the-variants.{Shape as NoShape, Length, Grade, Volume, Window, Limit, Head, Ahead, Late, Back, Block, Full, Trace, Day, Room}
 use Rattle.model.specs.Reply.{numberOf}
 use Rattle.model.specs.Block.{late, interval, halfOf}
 use Rattle.model.specs.Words.{blockPart, decodeBlock}
@@ -36,6 +36,9 @@ numberOf-pos Late e = omega arith
 numberOf-pos Back e = omega arith
 numberOf-pos Block e = omega arith
 numberOf-pos Full e = omega arith
+numberOf-pos Trace e = omega arith
+numberOf-pos Day e = omega arith
+numberOf-pos Room e = omega arith
 
 -- the view of words of this shape and this clock
 abbrev pub viewOf : Shape → ℕ → List ℕ → View

@@ -1,4 +1,4 @@
--- The claim (demand 3): `Claim` of the model, by one induction over the list of calls. The invariant is that the words are those of the
+-- The claim (demand 3): `Claim` of the model, by one induction over the calls of the list. The invariant is that the words are those of the
 -- ledger. Rests on `agree` (the same first refusal), on what each accepted call leaves, and on the bound of an answer.
 use mathlib.Core.Bool.{true}
 use mathlib.Core.Path.{_≡_, refl, sym, ap, ap₂, _∙_}
@@ -17,7 +17,7 @@ use Rattle.model.specs.Block.{late, windowSum}
 use Rattle.model.specs.Words.{shapeOf, clockOf}
 use Rattle.model.specs.Calls.{View, blockAt, firstOf, refusals, bookView, accept, perform, clocked, delivered}
 use Rattle.model.specs.Ledger.{Entry, Ledger, ledgerOf, volumeOf, ofGrade, ofWindow, ledgerView, note, enter}
-use Rattle.model.specs.Claim.{Turn, run, ByCall, Admits, Bound, Span, Outside, Kept, Claim}
+use Rattle.model.specs.Claim.{Turn, runCalls, Step, ByCall, Admits, Bound, Span, Outside, Kept, Claim}
 use Rattle.laws.specs.Cond.{eq-or-ne}
 use Rattle.laws.specs.Refusals.{accepted-make, accepted-clock, accepted-delivery, accepted-query, late-delivery, settle-accepted, settle-refused, perform-number, enter-number}
 use Rattle.ledger.specs.Time.{late-outside}
@@ -26,6 +26,7 @@ use Rattle.ledger.specs.State.{Good, wordsOf, words-shape, words-clock}
 use Rattle.ledger.specs.Agree.{agree}
 use Rattle.ledger.specs.Next.{made-words, made-good, block-is, clocked-words, clocked-good, delivered-words, delivered-good}
 use Rattle.ledger.specs.Window.{sum-admits}
+use Rattle.ledger.specs.Steps.{expand, run-calls, written-turns}
 
 -- what a call leads to: the ledger afterwards, whose words are then the book's; within a span k stays and the clock does not fall
 pub record Next (l : Ledger) (call : Call) : Type 0 where
@@ -213,18 +214,18 @@ module _ (l : Ledger) (good : Good l) where
 
 -- a run from the words of a ledger
 abbrev grown : Ledger → List Call → List Turn
-grown l calls = run (wordsOf l) l calls
+grown l calls = runCalls (wordsOf l) l calls
 
 -- a late stamp lies outside every window in the rest of the span
 outside : (calls : List Call) (l : Ledger) → Good l → (stamp : ℕ) → stamp + 2 ^ l .shape .k ≤ l .clock → Span (Outside stamp) (grown l calls)
-unfolding run
+unfolding runCalls
 outside [] l good stamp h = tt
 outside (call ∷ calls) l good stamp h =
     let c = next l good call in
     rw (c .book, c .exact) (span-step l good call c (grown (c .later) calls) stamp h (outside calls (c .later) (c .good) stamp))
 
 kept : (calls : List Call) (l : Ledger) → Good l → Kept (grown l calls)
-unfolding run
+unfolding runCalls
 kept [] l good = record { same = tt; bound = tt; missed = tt }
 kept (call ∷ calls) l good =
     let c = next l good call in
@@ -235,13 +236,14 @@ kept (call ∷ calls) l good =
       missed = (missed-step l good call c (grown (c .later) calls) (outside calls (c .later) (c .good)), rest .missed);
     })
 
--- the claim, for every list of calls from the words that an accepted make left on any words
+-- the claim, for every list of calls and replays from the words that an accepted make left on any words
 pub demand-3 : Claim
 unfolding Claim perform
-demand-3 before k n m g number calls =
+demand-3 before k n m g number steps =
     let call : Call = Make k n m g in
     let l : Ledger = ledgerOf (shaped k n m g) 0 [] in
     let h : firstOf (refusals (bookView before) call) ≡ 0 = sym (perform-number before call) ∙ number in
     let words : perform before call .left ≡ wordsOf l =
     ap (λ o. o .left) (settle-accepted (refusals (bookView before) call) before (accept before call) h) ∙ made-words (shaped k n m g) in
-    rw words (kept calls l (made-good k n m g (accepted-make (bookView before) k n m g h .0)))
+    let held : Kept (grown l (expand steps)) = kept (expand steps) l (made-good k n m g (accepted-make (bookView before) k n m g h .0)) in
+    (rw (run-calls (perform before call .left) l steps, words) held, written-turns (perform before call .left) l steps)

@@ -1,7 +1,7 @@
 -- What the claim (demand 3) alone excludes: a book that answers every question with one number, and a book whose deliveries store nothing.
 -- If the claim is made of such a book, a list of calls refutes it. Rests on the definitions alone.
-use mathlib.Core.Path.{_≡_, refl}
-use mathlib.Core.List.{List, [], _∷_}
+use mathlib.Core.Path.{_≡_, refl, ap, _∙_}
+use mathlib.Core.List.{List, [], _∷_, map}
 use Prim.Native.Nat.{ℕ, _+_, _*_, _≤_}
 use native.Mathlib.Omega.{arith}
 use lib.ListN.{length, replicate}
@@ -15,7 +15,8 @@ use Rattle.model.specs.Words.{decodeLevel, decodeHalf, decodeBlock, encodeLevel
 use Rattle.model.specs.Sound.{soundHead, soundLevel, soundHalf, soundBlock}
 use Rattle.model.specs.Calls.{Outcome, outcomeOf, refusals, bookView, made, clocked, delivered, perform}
 use Rattle.model.specs.Ledger.{Ledger, ledgerOf, ledgerView, enter}
-use Rattle.model.specs.Claim.{Turn, run, Kept, Claim}
+use Rattle.model.specs.Claim.{Turn, runCalls, Step, once, Kept, Claim}
+use Rattle.ledger.specs.Steps.{expand, expand-once, run-calls, written-turns}
 
 -- a book is a way to perform calls
 abbrev pub Book : Type 0
@@ -33,9 +34,9 @@ abbrev pub ClaimOf : Book → Type 0
 ClaimOf book = (before : List ℕ) (k n m g : ℕ) → book before (Make k n m g) .reply .number ≡ 0 → (calls : List Call)
     → Kept (runOf book (book before (Make k n m g) .left) (ledgerOf (shaped k n m g) 0 []) calls)
 
--- for the true book it is the claim itself
-run-same : (ws : List ℕ) (l : Ledger) (calls : List Call) → runOf perform ws l calls ≡ run ws l calls
-unfolding runOf run
+-- for the true book it is the claim itself: a replay counts as its calls
+run-same : (ws : List ℕ) (l : Ledger) (calls : List Call) → runOf perform ws l calls ≡ runCalls ws l calls
+unfolding runOf runCalls
 run-same ws l [] = refl
 run-same ws l (call ∷ calls) = rw (run-same (perform ws call .left) (enter (length ws) l call .left) calls)
 
@@ -44,10 +45,16 @@ unfolding Claim
 claim-same = (there, back)
   where
     there : Claim → ClaimOf perform
-    there claim before k n m g h calls = rw (run-same (perform before (Make k n m g) .left) (ledgerOf (shaped k n m g) 0 []) calls) (claim before k n m g h calls)
+    there claim before k n m g h calls =
+        let ws : List ℕ = perform before (Make k n m g) .left in
+        let l : Ledger = ledgerOf (shaped k n m g) 0 [] in
+        rw (run-same ws l calls) (rw (run-calls ws l (map once calls), expand-once calls) at (claim before k n m g h (map once calls) .0))
 
     back : ClaimOf perform → Claim
-    back claim before k n m g h calls = rw (← run-same (perform before (Make k n m g) .left) (ledgerOf (shaped k n m g) 0 []) calls) (claim before k n m g h calls)
+    back claim before k n m g h steps =
+        let ws : List ℕ = perform before (Make k n m g) .left in
+        let l : Ledger = ledgerOf (shaped k n m g) 0 [] in
+        (rw (run-calls ws l steps) (rw (run-same ws l (expand steps)) at (claim before k n m g h (expand steps))), written-turns ws l steps)
 
 -- ---- a constant sum
 

@@ -1,7 +1,8 @@
--- SPECIFICATION 9, the claim (the customer's demand 3): one statement about a whole list of calls, proved in `ledger`. Assumes nothing.
+-- SPECIFICATION 9, the claim (the customer's demand 3): one statement about a whole list of calls and replays, proved in `ledger`. Assumes
+-- nothing.
 use mathlib.Core.Bool.{false}
 use mathlib.Core.Path.{_≡_}
-use mathlib.Core.List.{List, [], _∷_}
+use mathlib.Core.List.{List, [], _∷_, _++_, map}
 use Prim.Native.Nat.{ℕ, _+_, _-_, _*_, _^_, _≤_, _<_}
 use lib.ListN.{length, getD}
 use Rattle.shape.specs.Limits.{Reply, shaped}
@@ -9,6 +10,7 @@ use Rattle.model.specs.declared.Call.{Call}
 use Rattle.model.specs.declared.Call.the-variants.{Make, Clock, Delivery, Query}
 use Rattle.model.specs.Block.{covers}
 use Rattle.model.specs.Calls.{perform}
+use Rattle.model.specs.Replay.{written, replayCalls, replay}
 use Rattle.model.specs.Ledger.{Ledger, ledgerOf, enter}
 
 pub record Turn : Type 0 where  -- SPECIFICATION 9.1, one call of a run: the ledger before it, the book's reply and the ledger's
@@ -17,12 +19,32 @@ pub record Turn : Type 0 where  -- SPECIFICATION 9.1, one call of a run: the led
   pub book : Reply
   pub exact : Reply
 
-unfoldable pub run : List ℕ → Ledger → List Call → List Turn  -- SPECIFICATION 9.1: a list of calls, each lent all of the words
-run ws l [] = []
-run ws l (call ∷ calls) =
+unfoldable pub runCalls : List ℕ → Ledger → List Call → List Turn  -- SPECIFICATION 9.1: calls one after another, each lent all of the words
+runCalls ws l [] = []
+runCalls ws l (call ∷ calls) =
     let done = perform ws call in
     let noted = enter (length ws) l call in
-    record { call = call; ledger = l; book = done .reply; exact = noted .reply } ∷ run (done .left) (noted .left) calls
+    record { call = call; ledger = l; book = done .reply; exact = noted .reply } ∷ runCalls (done .left) (noted .left) calls
+
+abbrev pub ledgerBy : List ℕ → Ledger → List Call → Ledger  -- the ledger after these calls
+ledgerBy ws l [] = l
+ledgerBy ws l (call ∷ calls) = ledgerBy (perform ws call .left) (enter (length ws) l call .left) calls
+
+pub data Step : Type 0 where  -- SPECIFICATION 9.1, an element of the list: a call, or a replay of a day of a trace with these words for the answers
+  once : Call → Step
+  replayed : List ℕ → ℕ → List ℕ → Step
+
+abbrev pub callsOf : Step → List Call  -- SPECIFICATION 9.1: the calls that a step counts as
+callsOf (once call) = call ∷ []
+callsOf (replayed trace day answers) = replayCalls trace day (length answers)
+
+abbrev pub leaves : List ℕ → Step → List ℕ  -- SPECIFICATION 9.1: the words that a step leaves of the book's
+leaves ws (once call) = perform ws call .left
+leaves ws (replayed trace day answers) = replay ws trace day answers .book
+
+unfoldable pub run : List ℕ → Ledger → List Step → List Turn  -- SPECIFICATION 9.1: a list of steps, each on the words that the one before left
+run ws l [] = []
+run ws l (step ∷ steps) = runCalls ws l (callsOf step) ++ run (leaves ws step) (ledgerBy ws l (callsOf step)) steps
 
 abbrev pub Each : {A : Type 0} → (A → Type 0) → List A → Type 0  -- P holds of each
 Each P [] = Unit {0}
@@ -62,6 +84,16 @@ pub record Kept (turns : List Turn) : Type 0 where  -- what holds of a run
   pub bound : Each Bound turns
   pub missed : Missed turns
 
-unfoldable pub Claim : Type 0  -- SPECIFICATION 9.5: for every list of calls, from the words that an accepted make left on any words, and from its ledger
-Claim = (before : List ℕ) (k n m g : ℕ) → perform before (Make k n m g) .reply .number ≡ 0 → (calls : List Call)
-    → Kept (run (perform before (Make k n m g) .left) (ledgerOf (shaped k n m g) 0 []) calls)
+abbrev pub Writes : List ℕ → List Turn → Step → Type 0  -- SPECIFICATION 9.6: a replay writes number and sum of each of its turns; the other words stay
+Writes ws turns (once call) = Unit {0}
+Writes ws turns (replayed trace day answers) = replay ws trace day answers .answers ≡ written (map (λ t. t .book) turns) answers
+
+abbrev pub Written : List ℕ → Ledger → List Step → Type 0  -- SPECIFICATION 9.6: each replay of a run does
+Written ws l [] = Unit {0}
+Written ws l (step ∷ steps) = Writes ws (runCalls ws l (callsOf step)) step × Written (leaves ws step) (ledgerBy ws l (callsOf step)) steps
+
+unfoldable pub Claim : Type 0  -- SPECIFICATION 9.5: for every list of calls and replays, from the words that an accepted make left on any words, and from its ledger
+Claim = (before : List ℕ) (k n m g : ℕ) → perform before (Make k n m g) .reply .number ≡ 0 → (steps : List Step) →
+    let ws = perform before (Make k n m g) .left in
+    let l = ledgerOf (shaped k n m g) 0 [] in
+    Kept (run ws l steps) × Written ws l steps

@@ -6,6 +6,9 @@ pub mod Words
 pub mod Sound
 pub mod Reply
 pub mod Calls
+pub mod Trace
+pub mod Replay
 pub mod Ledger
 pub mod Claim
 pub mod Table
+pub mod TraceTable

@@ -3,7 +3,7 @@ use mathlib.Core.List.{[], _∷_}
 use Prim.Native.Nat.{ℕ}
 use Rattle.shape.specs.Limits.{Reply, refused, accepted}
 use Rattle.model.specs.declared.Refusal.{Refusal}
-use Rattle.model.specs.declared.Refusal.the-variants.{Shape, Length, Grade, Volume, Window, Limit, Head, Ahead, Late, Back, Block, Full}
+use Rattle.model.specs.declared.Refusal.the-variants.{Shape, Length, Grade, Volume, Window, Limit, Head, Ahead, Late, Back, Block, Full, Trace, Day, Room}
 use Rattle.model.specs.declared.Answer.{Answer}
 use Rattle.model.specs.declared.Answer.the-variants.{Done, Sum, Refused}
 
@@ -20,6 +20,9 @@ numberOf Late = 9
 numberOf Back = 10
 numberOf Block = 11
 numberOf Full = 12
+numberOf Trace = 13
+numberOf Day = 14
+numberOf Room = 15
 
 unfoldable pub replyOf : Answer → Reply  -- the number, 0 where accepted, and the sum of an answered question
 replyOf Done = accepted []

@@ -15,6 +15,7 @@ use Rattle.model.specs.Block.{opening, offsetOf, interval, halfOf, servi
 use Rattle.model.specs.Words.{shapeOf, clockOf, decodeLevel, decodeHalf, decodeBlock, encodeLevel, encodeBlock}
 use Rattle.model.specs.Sound.{soundHead, soundLevel, soundHalf, soundBlock}
 use Rattle.model.specs.Calls.{blockAt, refusals, bookView, made, clocked, delivered, perform}
+use Rattle.model.specs.Replay.{leftBy}
 use Rattle.model.specs.Ledger.{Ledger, ledgerOf, ledgerView, enter}
 use Rattle.model.specs.Claim.{Each}
 
@@ -54,10 +55,6 @@ Holds ws l (servedFrom window i) =
     let a = offsetOf s start in
     (past a (take i levels) ≡ true) × (serving a levels ≡ getD levels i (levelOf 0 []))
 
-abbrev pub words : List ℕ → List Call → List ℕ
-words ws [] = ws
-words ws (call ∷ calls) = words (perform ws call .left) calls
-
 abbrev pub entered : Ledger → List Call → Ledger
 entered l [] = l
 entered l (call ∷ calls) = entered (enter exampleWords l call .left) calls
@@ -71,7 +68,7 @@ pub record Example : Type 0 where
 abbrev pub Meets : Example → Type 0
 Meets e =
     let calls = e .start ++ e .calls in
-    Each (Holds (words (replicate exampleWords 0) calls) (entered (ledgerOf exampleShape 0 []) calls)) (e .facts)
+    Each (Holds (leftBy (replicate exampleWords 0) calls) (entered (ledgerOf exampleShape 0 []) calls)) (e .facts)
 
 -- a book of that shape, with the clock at 3
 abbrev pub start : List Call

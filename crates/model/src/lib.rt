@@ -1,4 +1,5 @@
-// A call with its numbers, which may be any; why it is refused (SPECIFICATION 6.2, in the order of the numbers 1 to 12); its answer.
+// A call with its numbers, which may be any; why it is refused (SPECIFICATION 6.2, in the order of the numbers 1 to 15); its answer; and a
+// record of a trace (SPECIFICATION 16.2).
 pub enum Call {
     Make { k: u32, n: u32, m: u32, g: u32 },
     Clock { clock: u32 },
@@ -19,6 +20,9 @@ pub enum Refusal {
     Back, // The new clock is below the clock.
     Block, // A block is unsound.
     Full, // The interval has no room for the volume.
+    Trace, // The trace breaks its layout.
+    Day, // The trace has no such day.
+    Room, // The answers need more words.
 }
 
 pub enum Answer {
@@ -26,3 +30,26 @@ pub enum Answer {
     Sum(u64),
     Refused(Refusal),
 }
+
+// A record's kind and its call's numbers; the rest is zero.
+pub struct Record {
+    pub kind: u32,
+    pub first: u32,
+    pub second: u32,
+    pub third: u32,
+}
+
+// The most days of a trace.
+pub const MAX_DAYS: usize = 64;
+
+// The words of a record, and those of its answer.
+pub const RECORD_WORDS: usize = 4;
+
+pub const ANSWER_WORDS: usize = 2;
+
+// The kinds of record.
+pub const CLOCK_KIND: u32 = 1;
+
+pub const DELIVERY_KIND: u32 = 2;
+
+pub const QUERY_KIND: u32 = 3;

@@ -3,8 +3,8 @@ use mathlib.Core.Path.{sym, ap, _∙_}
 use Rattle.model.specs.declared.Answer.{Answer}
 use Rattle.model.specs.Reply.{replyOf}
 use borrow.Author.Needs.{needs}
-use Rattle.capi.proofs.code.Statement.{statement}
-use Rattle.capi.proofs.code.Tie as tie
+use Rattle.codes.proofs.answer_number.Statement.{statement}
+use Rattle.codes.proofs.answer_number.Tie as tie
 
 enum-told : tie.Need-enum-told
 enum-told c = search needs
@@ -30,7 +30,7 @@ returns-3 : tie.Need-returns-3
 unfolding replyOf
 returns-3 c = c .number .ensures ∙ ap (λ (a : Answer). replyOf a .number) (sym (c .before .before .answer .given .1))
 
-pub code-spec : {M : Type 1} → statement M
-code-spec =
+pub answer-number-spec : {M : Type 1} → statement M
+answer-number-spec =
     tie.close
     (tie.spec enum-told enum-told-2 enum-known-answer number-requires returns returns-2 returns-3)

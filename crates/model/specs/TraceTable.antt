@@ -1,0 +1,110 @@
+-- SPECIFICATION 18: examples of traces, found days and replays, as one table that the definitions meet. Assumes nothing.
+use mathlib.Core.Path.{_≡_, refl}
+use mathlib.Core.List.{List, [], _∷_, _++_}
+use Prim.Native.Nat.{ℕ, _+_, _*_}
+use lib.ListN.{replicate}
+use Rattle.shape.specs.Limits.{within}
+use Rattle.model.specs.declared.Call.{Call}
+use Rattle.model.specs.declared.Call.the-variants.{Make, Clock}
+use Rattle.shape.specs.Layout.{bookWords, blockWords, blockStart, levelStart}
+use Rattle.model.specs.Level.{unit, insert}
+use Rattle.model.specs.Block.{emptyHalf, deliverHalf, deliver, advance, answer, windowSum}
+use Rattle.model.specs.Words.{decodeLevel, decodeHalf, decodeBlock, encodeLevel, encodeBlock, join}
+use Rattle.model.specs.Sound.{soundHead, soundLevel, soundHalf, soundBlock}
+use Rattle.model.specs.Calls.{refusals, bookView, made, clocked, delivered, perform}
+use Rattle.model.specs.Trace.{soundRecord, callOf, soundDay, soundTrace, foundDay}
+use Rattle.model.specs.Replay.{leftBy, replayCalls, replay}
+use Rattle.model.specs.Claim.{Each}
+use Rattle.model.specs.Table.{exampleWords, p₃}
+
+-- a day of a trace, replayed on a book with these words for the answers: its number, the part found, the answers afterwards, and the calls
+-- that leave the same book
+pub record TraceExample : Type 0 where
+  pub book : List ℕ
+  pub trace : List ℕ
+  pub day : ℕ
+  pub answers : List ℕ
+  pub number : ℕ
+  pub part : List ℕ
+  pub after : List ℕ
+  pub calls : List Call
+
+abbrev pub MeetsTrace : TraceExample → Type 0
+MeetsTrace e =
+    let done = replay (e .book) (e .trace) (e .day) (e .answers) in
+    (done .reply .number ≡ e .number) × (foundDay (e .trace) (e .day) ≡ e .part) × (done .answers ≡ e .after) × (done .book ≡ leftBy (e .book) (e .calls))
+
+abbrev made₀ : List ℕ  -- a book of the shape of P1 to P10, just made
+made₀ = leftBy (replicate exampleWords 0) (Make 2 2 4 1 ∷ [])
+
+abbrev clockOnly : ℕ → List ℕ  -- a clock's record
+clockOnly clock = 1 ∷ clock ∷ 0 ∷ 0 ∷ []
+
+abbrev p₃Day : List ℕ  -- the calls up to P3 and the question of P4, as records
+p₃Day = clockOnly 3 ++ 2 ∷ 0 ∷ 0 ∷ 3 ∷ 2 ∷ 0 ∷ 3 ∷ 1 ∷ 2 ∷ 0 ∷ 1 ∷ 1 ∷ 3 ∷ 0 ∷ 2 ∷ 0 ∷ []
+
+abbrev week : List ℕ  -- an empty day, then the calls up to P3
+week = 2 ∷ 5 ∷ 0 ∷ 5 ∷ 20 ∷ p₃Day
+
+-- a replay on a book just made that is refused: nothing is written
+abbrev declining : List ℕ → ℕ → List ℕ → ℕ → List ℕ → TraceExample
+declining trace day answers number part = record { book = made₀; trace = trace; day = day; answers = answers; number = number; part = part; after = answers; calls = [] }
+
+-- one that is refused since there is no such day: nothing is found
+abbrev refusing : List ℕ → ℕ → List ℕ → ℕ → TraceExample
+refusing trace day answers number = declining trace day answers number []
+
+-- an accepted one
+abbrev accepting : List ℕ → List ℕ → ℕ → List ℕ → List ℕ → List ℕ → List Call → TraceExample
+accepting book trace day answers part after calls = record { book = book; trace = trace; day = day; answers = answers; number = 0; part = part; after = after; calls = calls }
+
+abbrev days : ℕ → List ℕ  -- a trace of so many empty days
+days count = count ∷ join (replicate count ((1 + 2 * count) ∷ 0 ∷ []))
+
+abbrev one : List ℕ → List ℕ  -- a trace whose only day has one record
+one words = 1 ∷ 3 ∷ 4 ∷ words
+
+abbrev pub traces : List TraceExample
+traces =
+    -- P4's question is answered 1; the words past the last record stay
+    accepting made₀ week 1 (replicate 11 7) p₃Day (replicate 9 0 ++ 1 ∷ 7 ∷ []) (Clock 3 ∷ p₃)
+    -- ten answer words are enough, nine are not
+    ∷ accepting made₀ week 1 (replicate 10 7) p₃Day (replicate 9 0 ++ 1 ∷ []) (Clock 3 ∷ p₃)
+    ∷ declining week 1 (replicate 9 7) 15 p₃Day
+    -- an empty day needs no answer word
+    ∷ accepting made₀ week 0 [] [] [] []
+    ∷ accepting made₀ week 0 (7 ∷ []) [] (7 ∷ []) []
+    -- days are numbered from 0; 14 comes before 15
+    ∷ refusing week 2 [] 14
+    ∷ refusing (0 ∷ []) 0 [] 14
+    -- a refused record does not stop the replay: grade 9, then a question
+    ∷ accepting made₀ (1 ∷ 3 ∷ 8 ∷ 2 ∷ 9 ∷ 0 ∷ 1 ∷ 3 ∷ 0 ∷ 4 ∷ 0 ∷ []) 0 (replicate 4 7) (2 ∷ 9 ∷ 0 ∷ 1 ∷ 3 ∷ 0 ∷ 4 ∷ 0 ∷ []) (3 ∷ 0 ∷ 0 ∷ 0 ∷ []) []
+    -- a short book, and one with no sound head, refuse each record and not the replay
+    ∷ accepting (replicate 7 0) week 1 (replicate 10 7) p₃Day (2 ∷ 0 ∷ 2 ∷ 0 ∷ 2 ∷ 0 ∷ 2 ∷ 0 ∷ 2 ∷ 0 ∷ []) []
+    ∷ accepting (replicate 8 0) (one (clockOnly 3)) 0 (replicate 2 7) (clockOnly 3) (7 ∷ 0 ∷ []) []
+    -- 64 days, and no more
+    ∷ accepting made₀ (days 64) 63 [] [] [] []
+    ∷ refusing (days 65) 0 [] 13
+    -- 13, also before 14 and 15: no words; a word follows; a word is missing; a gap before the first day; a pair that is not there
+    ∷ refusing [] 0 [] 13
+    ∷ refusing (0 ∷ 0 ∷ []) 0 [] 13
+    ∷ refusing (1 ∷ 3 ∷ 4 ∷ 1 ∷ 3 ∷ 0 ∷ []) 5 [] 13
+    ∷ refusing (1 ∷ 4 ∷ 4 ∷ 0 ∷ clockOnly 3) 0 (replicate 2 7) 13
+    ∷ refusing (2 ∷ 5 ∷ 0 ∷ []) 0 [] 13
+    -- days that are not sorted, days that overlap, a day of three words
+    ∷ refusing (2 ∷ 9 ∷ 4 ∷ 5 ∷ 4 ∷ (clockOnly 1 ++ clockOnly 2)) 0 (replicate 2 7) 13
+    ∷ refusing (2 ∷ 5 ∷ 4 ∷ 5 ∷ 4 ∷ clockOnly 1) 0 (replicate 2 7) 13
+    ∷ refusing (1 ∷ 3 ∷ 3 ∷ 1 ∷ 3 ∷ 0 ∷ []) 0 (replicate 2 7) 13
+    -- another kind, and each rest word that is not zero
+    ∷ refusing (one (0 ∷ 0 ∷ 0 ∷ 0 ∷ [])) 0 (replicate 2 7) 13
+    ∷ refusing (one (4 ∷ 0 ∷ 0 ∷ 0 ∷ [])) 0 (replicate 2 7) 13
+    ∷ refusing (one (1 ∷ 3 ∷ 1 ∷ 0 ∷ [])) 0 (replicate 2 7) 13
+    ∷ refusing (one (1 ∷ 3 ∷ 0 ∷ 1 ∷ [])) 0 (replicate 2 7) 13
+    ∷ refusing (one (3 ∷ 0 ∷ 2 ∷ 1 ∷ [])) 0 (replicate 2 7) 13
+    -- the same in a day that is not asked for
+    ∷ refusing (2 ∷ 5 ∷ 4 ∷ 9 ∷ 4 ∷ (clockOnly 3 ++ 3 ∷ 0 ∷ 2 ∷ 1 ∷ [])) 0 (replicate 2 7) 13
+    ∷ []
+
+pub traces-hold : Each MeetsTrace traces
+unfolding soundRecord callOf soundDay soundTrace foundDay replayCalls replay perform refusals bookView made clocked delivered soundHead soundBlock soundHalf soundLevel within encodeBlock encodeLevel decodeBlock decodeHalf decodeLevel emptyHalf deliver deliverHalf advance answer windowSum unit insert blockWords bookWords blockStart levelStart
+traces-hold = ((refl, refl, refl, refl), ((refl, refl, refl, refl), ((refl, refl, refl, refl), ((refl, refl, refl, refl), ((refl, refl, refl, refl), ((refl, refl, refl, refl), ((refl, refl, refl, refl), ((refl, refl, refl, refl), ((refl, refl, refl, refl), ((refl, refl, refl, refl), ((refl, refl, refl, refl), ((refl, refl, refl, refl), ((refl, refl, refl, refl), ((refl, refl, refl, refl), ((refl, refl, refl, refl), ((refl, refl, refl, refl), ((refl, refl, refl, refl), ((refl, refl, refl, refl), ((refl, refl, refl, refl), ((refl, refl, refl, refl), ((refl, refl, refl, refl), ((refl, refl, refl, refl), ((refl, refl, refl, refl), ((refl, refl, refl, refl), ((refl, refl, refl, refl), ((refl, refl, refl, refl), tt))))))))))))))))))))))))))

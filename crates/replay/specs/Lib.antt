@@ -1,0 +1,3 @@
+pub mod Part
+pub mod ReplayLaws
+pub mod Fits

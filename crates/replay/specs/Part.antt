@@ -1,0 +1,74 @@
+-- A replay of a day that was found: the part of a replay that follows the refusals of finding it. Assumes nothing.
+use mathlib.Core.Bool.{Bool, true, false, cond, not}
+use mathlib.Core.Path.{_≡_, refl, sym, _∙_}
+use mathlib.Core.List.{List, [], map}
+use Prim.Native.Nat.{ℕ, zero, suc, _+_, _*_, _/_}
+use native.Mathlib.Omega.{arith}
+use lib.Dec.{ltb, eqb}
+use lib.ListN.{length}
+use borrow.Author.Tests.{eq-eqb, ne-eqb}
+use Rattle.shape.specs.Limits.{refused, accepted}
+use Rattle.model.specs.declared.Call.{Call}
+use Rattle.model.specs.Block.{upFrom}
+use Rattle.model.specs.Calls.{firstOf}
+use Rattle.model.specs.Trace.{recordWords, recordAt, recordsOf, callOf, dayCount, dayPart, soundTrace, dayRefusals}
+use Rattle.model.specs.Replay.{leftBy, repliesTo, answerWords, written, replayRefusals, replayCalls, Replayed, replay}
+
+-- the calls of a day's words
+abbrev pub dayCalls : List ℕ → List Call
+dayCalls day = map callOf (recordsOf day)
+
+unfoldable pub replayPart : List ℕ → List ℕ → List ℕ → Replayed
+replayPart ws day answers =
+    cond (ltb (length answers) (answerWords * length (recordsOf day)))
+    (record { reply = refused 15; book = ws; answers = answers })
+    (record { reply = accepted []; book = leftBy ws (dayCalls day); answers = written (repliesTo ws (dayCalls day)) answers })
+
+length-upFrom : {A : Type 0} (f : ℕ → A) (i c : ℕ) → length (upFrom f i c) ≡ c
+length-upFrom f i zero = refl
+length-upFrom f i (suc c) = omega (arith, length-upFrom f (suc i) c)
+
+-- how many records the words have
+pub length-records : (day : List ℕ) → length (recordsOf day) ≡ length day / recordWords
+length-records day = length-upFrom (recordAt day) 0 (length day / recordWords)
+
+module _ (ws trace : List ℕ) (day : ℕ) (answers : List ℕ) where
+  abbrev number : ℕ
+  number = firstOf (dayRefusals trace day)
+
+  abbrev small : Bool
+  small = ltb (length answers) (answerWords * length (recordsOf (dayPart trace day)))
+
+  -- the refusals of finding the day come first
+  found-first : number ≡ 0 → firstOf (replayRefusals trace day (length answers)) ≡ cond small 15 0
+  found-first h = go (soundTrace trace) (ltb day (dayCount trace)) h
+    where
+      go : (s t : Bool) → _≡_ {A = ℕ} (cond (not s) 13 (cond (not t) 14 0)) 0 → _≡_ {A = ℕ} (cond (not s) 13 (cond (not t) 14 (cond small 15 0))) (cond small 15 0)
+      go true true e = refl
+      go true false e = absurd (omega arith)
+      go false t e = absurd (omega arith)
+
+  refused-first : (number ≡ 0 → ⊥) → firstOf (replayRefusals trace day (length answers)) ≡ number
+  refused-first h = go (soundTrace trace) (ltb day (dayCount trace)) h
+    where
+      go : (s t : Bool) → (_≡_ {A = ℕ} (cond (not s) 13 (cond (not t) 14 0)) 0 → ⊥) → _≡_ {A = ℕ} (cond (not s) 13 (cond (not t) 14 (cond small 15 0))) (cond (not s) 13 (cond (not t) 14 0))
+      go true true e = absurd (e refl)
+      go true false e = refl
+      go false t e = refl
+
+  pub replay-found : number ≡ 0 → replay ws trace day answers ≡ replayPart ws (dayPart trace day) answers
+  unfolding replay replayCalls replayPart
+  replay-found h = rw (found-first h) (go small)
+    where
+      go : (t : Bool) → _≡_ {A = Replayed} (
+          let n : ℕ = cond t 15 0 in
+          let calls : List Call = cond (eqb n 0) (dayCalls (dayPart trace day)) [] in
+          record { reply = cond (eqb n 0) (accepted []) (refused n); book = leftBy ws calls; answers = written (repliesTo ws calls) answers })
+          (cond t (record { reply = refused 15; book = ws; answers = answers })
+          (record { reply = accepted []; book = leftBy ws (dayCalls (dayPart trace day)); answers = written (repliesTo ws (dayCalls (dayPart trace day))) answers }))
+      go true = refl
+      go false = refl
+
+  pub replay-refused : (number ≡ 0 → ⊥) → replay ws trace day answers ≡ record { reply = refused number; book = ws; answers = answers }
+  unfolding replay replayCalls
+  replay-refused h = rw (refused-first h, ne-eqb number 0 h)

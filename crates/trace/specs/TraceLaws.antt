@@ -1,0 +1,162 @@
+-- How the loops of the check go through a trace, and what a sound trace gives. Rests on the laws of tests and lists.
+use mathlib.Core.Bool.{Bool, true, false, true≢false, cond, not, _&&_}
+use mathlib.Core.Path.{_≡_, refl, sym, ap, _∙_}
+use mathlib.Core.Logic.{⊎-elim}
+use mathlib.Core.List.{List, [], _∷_}
+use Prim.Native.Nat.{ℕ, zero, suc, _+_, _-_, _*_, _≤_, _<_}
+use native.Mathlib.Nat.{sub-zero}
+use native.Mathlib.Numerals.{add-one}
+use native.Mathlib.Omega.{arith}
+use lib.Dec.{leb, ltb, eqb}
+use lib.ListN.{length, getD}
+use borrow.Author.Tests.{eq-eqb, ne-eqb, le-leb, lt-leb, leb-true, ltb-true, ltb-false, eqb-true, lt-ltb, le-ltb}
+use Rattle.shape.specs.Limits.{Reply, refused, accepted}
+use Rattle.shape.specs.LimitsLaws.{both}
+use Rattle.model.specs.Sound.{allFrom}
+use Rattle.model.specs.Calls.{firstOf}
+use Rattle.model.specs.Trace.{maxDays, soundDay, dayCount, pairStart, dayStart, dayLength, dayPart, laid, soundTrace, dayRefusals, dayReply, foundDay}
+use Rattle.laws.specs.Cond.{lt-or-ge, and-false, by-eq}
+use Rattle.laws.specs.Parts.{allFrom-elim}
+
+-- ---- days one after another
+
+-- no layout starts past the last word
+pub laid-past : (trace : List ℕ) (c at j : ℕ) → length trace < at → laid trace at j c ≡ false
+laid-past trace zero at j h = ne-eqb at (length trace) (λ e. omega arith)
+laid-past trace (suc c) at j h = and-false (eqb (dayStart trace j) at) (laid-past trace c (at + dayLength trace j) (suc j) (omega arith))
+
+pub laid-within : (trace : List ℕ) (c at j : ℕ) → laid trace at j c ≡ true → at ≤ length trace
+laid-within trace c at j e = ⊎-elim (λ (l : length trace < at). absurd (true≢false (sym e ∙ laid-past trace c at j l))) (λ (g : at ≤ length trace). g) (lt-or-ge (length trace) at)
+
+module _ (trace : List ℕ) (days at j : ℕ) where
+  -- what is left of the layout at day j
+  abbrev pub laidFrom : Bool
+  laidFrom = laid trace at j (days - j)
+
+  pub laid-step : j < days → laidFrom ≡ (eqb (dayStart trace j) at && laid trace (at + dayLength trace j) (j + 1) (days - (j + 1)))
+  laid-step h = let left : days - j ≡ suc (days - (j + 1)) = omega arith in rw (left, add-one)
+
+  pub laid-end : days ≤ j → laidFrom ≡ eqb at (length trace)
+  laid-end h = let left : days - j ≡ 0 = omega arith in rw left
+
+-- each day of a layout lies in the trace
+pub laid-lies : (trace : List ℕ) (c at i j : ℕ) → laid trace at i c ≡ true → i ≤ j → j < i + c → dayStart trace j + dayLength trace j ≤ length trace
+laid-lies trace zero at i j e low high = absurd (omega arith)
+laid-lies trace (suc c) at i j e low high =
+    let p : (eqb (dayStart trace i) at ≡ true) × (laid trace (at + dayLength trace i) (suc i) c ≡ true) = both e in
+    ⊎-elim
+    (λ (l : i < j). laid-lies trace c (at + dayLength trace i) (suc i) j (p .1) l (omega arith))
+    (λ (g : j ≤ i).
+        let same : i ≡ j = omega arith in
+        rw same at (here (eqb-true (dayStart trace i) at (p .0)) (laid-within trace c (at + dayLength trace i) (suc i) (p .1))))
+    (lt-or-ge i j)
+  where
+    here : dayStart trace i ≡ at → at + dayLength trace i ≤ length trace → dayStart trace i + dayLength trace i ≤ length trace
+    here s w = omega arith
+
+-- ---- a sound trace
+
+pub record Laid (trace : List ℕ) : Type 0 where
+  pub some : 0 < length trace
+  pub few : dayCount trace ≤ maxDays
+  pub pairs : pairStart (dayCount trace) ≤ length trace
+  pub days : laid trace (pairStart (dayCount trace)) 0 (dayCount trace) ≡ true
+  pub sound : allFrom (λ j. soundDay (dayPart trace j)) 0 (dayCount trace) ≡ true
+
+pub sound-laid : (trace : List ℕ) → soundTrace trace ≡ true → Laid trace
+unfolding soundTrace
+sound-laid trace e =
+    let p : (ltb 0 (length trace) ≡ true) × (_ ≡ true) = both e in
+    let q : (leb (dayCount trace) maxDays ≡ true) × (_ ≡ true) = both (p .1) in
+    let r : (laid trace (pairStart (dayCount trace)) 0 (dayCount trace) ≡ true) × (_ ≡ true) = both (q .1) in
+    record {
+      some = ltb-true 0 (length trace) (p .0);
+      few = leb-true (dayCount trace) maxDays (q .0);
+      pairs = laid-within trace (dayCount trace) (pairStart (dayCount trace)) 0 (r .0);
+      days = r .0;
+      sound = r .1;
+    }
+
+-- what makes a trace unsound, in the order of the code's tests
+module _ (trace : List ℕ) where
+  pub unsound-none : length trace ≡ 0 → false ≡ soundTrace trace
+  unfolding soundTrace
+  unsound-none h = rw (le-ltb 0 (length trace) (omega arith))
+
+  module _ (some : 0 < length trace) where
+    pub unsound-many : maxDays < dayCount trace → false ≡ soundTrace trace
+    unfolding soundTrace
+    unsound-many h = rw (lt-ltb 0 (length trace) some, lt-leb (dayCount trace) maxDays h)
+
+    module _ (few : dayCount trace ≤ maxDays) where
+      sound-rest : soundTrace trace
+          ≡ (laid trace (pairStart (dayCount trace)) 0 (dayCount trace) && allFrom (λ j. soundDay (dayPart trace j)) 0 (dayCount trace))
+      unfolding soundTrace
+      sound-rest = rw (lt-ltb 0 (length trace) some, le-leb (dayCount trace) maxDays few)
+
+      pub unsound-layout : laid trace (pairStart (dayCount trace)) 0 (dayCount trace) ≡ false → false ≡ soundTrace trace
+      unsound-layout h = rw (sound-rest, h)
+
+      pub sound-days : laid trace (pairStart (dayCount trace)) 0 (dayCount trace) ≡ true
+          → allFrom (λ j. soundDay (dayPart trace j)) 0 (dayCount trace) ≡ soundTrace trace
+      sound-days h = rw (sound-rest, h)
+
+-- ---- what finding a day answers
+
+module _ (trace : List ℕ) (day : ℕ) where
+  abbrev pub dayNumber : ℕ
+  dayNumber = firstOf (dayRefusals trace day)
+
+  pub day-accepted : dayNumber ≡ 0 → dayReply trace day ≡ accepted (dayStart trace day ∷ dayLength trace day ∷ [])
+  unfolding dayReply
+  day-accepted h = rw (eq-eqb dayNumber 0 h)
+
+  pub day-refused : (dayNumber ≡ 0 → ⊥) → dayReply trace day ≡ refused dayNumber
+  unfolding dayReply
+  day-refused h = rw (ne-eqb dayNumber 0 h)
+
+  day-number : dayReply trace day .number ≡ dayNumber
+  unfolding dayReply
+  day-number = by-eq dayNumber 0 (λ (r : Reply). r .number ≡ dayNumber) (λ z. sym z) (λ _. refl)
+
+  -- the day is there, and lies in the trace
+  pub record Lies (start size : ℕ) : Type 0 where
+    pub number : dayNumber ≡ 0
+    pub starts : start ≡ dayStart trace day
+    pub sized : size ≡ dayLength trace day
+    pub within : start + size ≤ length trace
+
+  number-sound : dayNumber ≡ 0 → (soundTrace trace ≡ true) × (day < dayCount trace)
+  number-sound h = go (soundTrace trace) (ltb day (dayCount trace)) refl refl h
+    where
+      go : (s t : Bool) → soundTrace trace ≡ s → ltb day (dayCount trace) ≡ t → _≡_ {A = ℕ} (cond (not s) 13 (cond (not t) 14 0)) 0
+          → (soundTrace trace ≡ true) × (day < dayCount trace)
+      go true true a b e = (a, ltb-true day (dayCount trace) b)
+      go true false a b e = absurd (omega arith)
+      go false t a b e = absurd (omega arith)
+
+  pub found-lies : (start size : ℕ) → accepted (start ∷ size ∷ []) ≡ dayReply trace day → Lies start size
+  found-lies start size e =
+      let none : dayNumber ≡ 0 = sym day-number ∙ sym (ap (λ (r : Reply). r .number) e) in
+      let f = number-sound none in
+      let known = e ∙ day-accepted none in
+      let starts : start ≡ dayStart trace day = ap (λ (r : Reply). getD (r .values) 0 0) known in
+      let sized : size ≡ dayLength trace day = ap (λ (r : Reply). getD (r .values) 1 0) known in
+      record {
+        number = none;
+        starts = starts;
+        sized = sized;
+        within = omega (arith, starts, sized, laid-lies trace (dayCount trace) (pairStart (dayCount trace)) 0 day (sound-laid trace (f .0) .days) (omega arith) (omega (arith, f .1)));
+      }
+
+  pub found-number : (n : ℕ) → refused n ≡ dayReply trace day → n ≡ dayNumber
+  found-number n e = ap (λ (r : Reply). r .number) e ∙ day-number
+
+  -- the part that is found
+  pub part-found : dayNumber ≡ 0 → foundDay trace day ≡ dayPart trace day
+  unfolding foundDay
+  part-found h = rw (eq-eqb dayNumber 0 h)
+
+  pub part-none : (dayNumber ≡ 0 → ⊥) → foundDay trace day ≡ []
+  unfolding foundDay
+  part-none h = rw (ne-eqb dayNumber 0 h)

@@ -115,6 +115,20 @@ module _ (trace : List ℕ) (day : ℕ) where
   unfolding dayReply
   day-refused h = rw (ne-eqb dayNumber 0 h)
 
+  -- by the code's tests
+  pub unsound-reply : soundTrace trace ≡ false → refused 13 ≡ dayReply trace day
+  unfolding dayReply
+  unsound-reply h = rw h
+
+  module _ (sound : soundTrace trace ≡ true) where
+    pub absent-reply : dayCount trace ≤ day → refused 14 ≡ dayReply trace day
+    unfolding dayReply
+    absent-reply h = rw (sound, le-ltb day (dayCount trace) h)
+
+    pub found-reply : day < dayCount trace → accepted (dayStart trace day ∷ dayLength trace day ∷ []) ≡ dayReply trace day
+    unfolding dayReply
+    found-reply h = rw (sound, lt-ltb day (dayCount trace) h)
+
   day-number : dayReply trace day .number ≡ dayNumber
   unfolding dayReply
   day-number = by-eq dayNumber 0 (λ (r : Reply). r .number ≡ dayNumber) (λ z. sym z) (λ _. refl)

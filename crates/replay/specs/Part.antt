@@ -1,12 +1,12 @@
 -- A replay of a day that was found: the part of a replay that follows the refusals of finding it. Assumes nothing.
 use mathlib.Core.Bool.{Bool, true, false, cond, not}
-use mathlib.Core.Path.{_≡_, refl, sym, _∙_}
+use mathlib.Core.Path.{_≡_, refl}
 use mathlib.Core.List.{List, [], map}
-use Prim.Native.Nat.{ℕ, zero, suc, _+_, _*_, _/_}
+use Prim.Native.Nat.{ℕ, zero, suc, _*_, _/_, _≤_, _<_}
 use native.Mathlib.Omega.{arith}
 use lib.Dec.{ltb, eqb}
 use lib.ListN.{length}
-use borrow.Author.Tests.{eq-eqb, ne-eqb}
+use borrow.Author.Tests.{ne-eqb, lt-ltb, le-ltb}
 use Rattle.shape.specs.Limits.{refused, accepted}
 use Rattle.model.specs.declared.Call.{Call}
 use Rattle.model.specs.Block.{upFrom}
@@ -31,6 +31,17 @@ length-upFrom f i (suc c) = omega (arith, length-upFrom f (suc i) c)
 -- how many records the words have
 pub length-records : (day : List ℕ) → length (recordsOf day) ≡ length day / recordWords
 length-records day = length-upFrom (recordAt day) 0 (length day / recordWords)
+
+-- the two cases of a day that was found
+module _ (ws day answers : List ℕ) where
+  pub part-cramped : length answers < answerWords * length (recordsOf day) → record { reply = refused 15; book = ws; answers = answers } ≡ replayPart ws day answers
+  unfolding replayPart
+  part-cramped h = rw (lt-ltb (length answers) (answerWords * length (recordsOf day)) h)
+
+  pub part-played : answerWords * length (recordsOf day) ≤ length answers
+      → record { reply = accepted []; book = leftBy ws (dayCalls day); answers = written (repliesTo ws (dayCalls day)) answers } ≡ replayPart ws day answers
+  unfolding replayPart
+  part-played h = rw (le-ltb (length answers) (answerWords * length (recordsOf day)) h)
 
 module _ (ws trace : List ℕ) (day : ℕ) (answers : List ℕ) where
   abbrev number : ℕ

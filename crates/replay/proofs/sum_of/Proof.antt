@@ -1,0 +1,36 @@
+-- The match says which answer it is.
+use native.Mathlib.Omega.{arith}
+use borrow.Author.Needs.{needs}
+use Rattle.model.specs.Reply.{replyOf}
+use Rattle.replay.proofs.sum_of.Statement.{statement}
+use Rattle.replay.proofs.sum_of.Tie as tie
+
+enum-told : tie.Need-enum-told
+enum-told c = search needs
+
+enum-known-answer : tie.Need-enum-known-answer
+enum-known-answer c = search needs
+
+cast-result : tie.Need-cast-result
+unfolding replyOf
+cast-result c = omega (arith, rw (c .before .answer .given .1) at (c .before .before .before .pre))
+
+enum-told-2 : tie.Need-enum-told-2
+enum-told-2 c = search needs
+
+returns : tie.Need-returns
+unfolding replyOf
+returns c = search needs
+
+returns-2 : tie.Need-returns-2
+unfolding replyOf
+returns-2 c = search needs
+
+returns-3 : tie.Need-returns-3
+unfolding replyOf
+returns-3 c = search needs
+
+pub sum-of-spec : {M : Type 1} → statement M
+sum-of-spec =
+    tie.close
+    (tie.spec enum-told enum-known-answer cast-result enum-told-2 returns returns-2 returns-3)

@@ -84,7 +84,12 @@ pub extern "C" fn litres_day(trace: &[u32], day: u32, start: &mut usize, length:
 
 // `book` and `answers` are written only if the replay is accepted.
 #[no_mangle]
-pub extern "C" fn litres_replay(book: &mut [u32], trace: &[u32], day: u32, answers: &mut [u32]) -> u32
+pub extern "C" fn litres_replay(
+    book: &mut [u32],
+    trace: &[u32],
+    day: u32,
+    answers: &mut [u32],
+) -> u32
     ensures { λ r. ⌜ (r, now (book .exit), now (answers .exit)) ≡ replayOf (replay (now (book .entry)) (now (trace .entry)) day (now (answers .entry))) ⌝ }
 {
     codes::answer_number(replay::replay(book, trace, day, answers))

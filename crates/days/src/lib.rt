@@ -5,6 +5,7 @@ use model::DELIVERY_KIND;
 use model::QUERY_KIND;
 use model::RECORD_WORDS;
 use model::Record;
+use words::both;
 use words::wide;
 ghost use mathlib.Core.Path.{_≡_};
 ghost use Prim.Native.Nat.{_+_, _*_, _≤_};
@@ -76,18 +77,12 @@ fn is_sound_record(it: Record) -> bool
     ensures { λ r. ⌜ r ≡ soundRecord it ⌝ }
 {
     if it.kind == CLOCK_KIND {
-        if it.second != 0 {
-            return false;
-        }
-        return it.third == 0;
+        return both(it.second == 0, it.third == 0);
     }
     if it.kind == DELIVERY_KIND {
         return true;
     }
-    if it.kind == QUERY_KIND {
-        return it.third == 0;
-    }
-    false
+    both(it.kind == QUERY_KIND, it.third == 0)
 }
 
 // Whether the words are whole records, each sound.

@@ -26,7 +26,7 @@ use Rattle.ledger.specs.State.{Good, wordsOf, words-shape, words-clock}
 use Rattle.ledger.specs.Agree.{agree}
 use Rattle.ledger.specs.Next.{made-words, made-good, block-is, clocked-words, clocked-good, delivered-words, delivered-good}
 use Rattle.ledger.specs.Window.{sum-admits}
-use Rattle.ledger.specs.Steps.{expand, run-calls, written-turns}
+use Rattle.ledger.specs.Steps.{expand, run-calls, each-writes}
 
 -- what a call leads to: the ledger afterwards, whose words are then the book's; within a span k stays and the clock does not fall
 pub record Next (l : Ledger) (call : Call) : Type 0 where
@@ -246,4 +246,4 @@ demand-3 before k n m g number steps =
     let words : perform before call .left ≡ wordsOf l =
     ap (λ o. o .left) (settle-accepted (refusals (bookView before) call) before (accept before call) h) ∙ made-words (shaped k n m g) in
     let held : Kept (grown l (expand steps)) = kept (expand steps) l (made-good k n m g (accepted-make (bookView before) k n m g h .0)) in
-    (rw (run-calls (perform before call .left) l steps, words) held, written-turns (perform before call .left) l steps)
+    (rw (run-calls (perform before call .left) l steps, words) held, each-writes (perform before call .left) l steps)

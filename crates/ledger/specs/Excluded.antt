@@ -16,7 +16,7 @@ use Rattle.model.specs.Sound.{soundHead, soundLevel, soundHalf, soundBlock}
 use Rattle.model.specs.Calls.{Outcome, outcomeOf, refusals, bookView, made, clocked, delivered, perform}
 use Rattle.model.specs.Ledger.{Ledger, ledgerOf, ledgerView, enter}
 use Rattle.model.specs.Claim.{Turn, runCalls, Step, once, Kept, Claim}
-use Rattle.ledger.specs.Steps.{expand, expand-once, run-calls, written-turns}
+use Rattle.ledger.specs.Steps.{expand, expand-once, run-calls, each-writes}
 
 -- a book is a way to perform calls
 abbrev pub Book : Type 0
@@ -54,7 +54,7 @@ claim-same = (there, back)
     back claim before k n m g h steps =
         let ws : List ℕ = perform before (Make k n m g) .left in
         let l : Ledger = ledgerOf (shaped k n m g) 0 [] in
-        (rw (run-calls ws l steps) (rw (run-same ws l (expand steps)) at (claim before k n m g h (expand steps))), written-turns ws l steps)
+        (rw (run-calls ws l steps) (rw (run-same ws l (expand steps)) at (claim before k n m g h (expand steps))), each-writes ws l steps)
 
 -- ---- a constant sum
 

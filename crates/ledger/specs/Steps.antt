@@ -6,9 +6,9 @@ use lib.ListN.{length}
 use Rattle.shape.specs.Limits.{Reply}
 use Rattle.model.specs.declared.Call.{Call}
 use Rattle.model.specs.Calls.{perform}
-use Rattle.model.specs.Replay.{leftBy, repliesTo, written, replayCalls, replay}
+use Rattle.model.specs.Replay.{leftBy, repliesTo, withAnswers, replayCalls, replay}
 use Rattle.model.specs.Ledger.{Ledger, enter}
-use Rattle.model.specs.Claim.{Turn, runCalls, ledgerBy, Step, once, replayed, callsOf, leaves, run, Writes, Written}
+use Rattle.model.specs.Claim.{Turn, runCalls, ledgerBy, Step, once, replayed, callsOf, leaves, run, WritesTurns, EachWrites}
 
 -- the calls of a list of steps
 abbrev pub expand : List Step → List Call
@@ -45,13 +45,13 @@ runCalls-replies ws l [] = refl
 runCalls-replies ws l (call ∷ calls) =
     ap (λ (z : List Reply). perform ws call .reply ∷ z) (runCalls-replies (perform ws call .left) (enter (length ws) l call .left) calls)
 
-writes-turns : (ws : List ℕ) (l : Ledger) (step : Step) → Writes ws (runCalls ws l (callsOf step)) step
+writes-turns : (ws : List ℕ) (l : Ledger) (step : Step) → WritesTurns ws (runCalls ws l (callsOf step)) step
 unfolding replay
 writes-turns ws l (once call) = tt
 writes-turns ws l (replayed trace day answers) =
-    ap (λ (z : List Reply). written z answers) (sym (runCalls-replies ws l (replayCalls trace day (length answers))))
+    ap (λ (z : List Reply). withAnswers z answers) (sym (runCalls-replies ws l (replayCalls trace day (length answers))))
 
 -- each replay writes the numbers and sums of its turns
-pub written-turns : (ws : List ℕ) (l : Ledger) (steps : List Step) → Written ws l steps
-written-turns ws l [] = tt
-written-turns ws l (step ∷ steps) = (writes-turns ws l step, written-turns (leaves ws step) (ledgerBy ws l (callsOf step)) steps)
+pub each-writes : (ws : List ℕ) (l : Ledger) (steps : List Step) → EachWrites ws l steps
+each-writes ws l [] = tt
+each-writes ws l (step ∷ steps) = (writes-turns ws l step, each-writes (leaves ws step) (ledgerBy ws l (callsOf step)) steps)

@@ -10,7 +10,7 @@ use Rattle.model.specs.declared.Call.{Call}
 use Rattle.model.specs.declared.Call.the-variants.{Make, Clock, Delivery, Query}
 use Rattle.model.specs.Block.{covers}
 use Rattle.model.specs.Calls.{perform}
-use Rattle.model.specs.Replay.{written, replayCalls, replay}
+use Rattle.model.specs.Replay.{withAnswers, replayCalls, replay}
 use Rattle.model.specs.Ledger.{Ledger, ledgerOf, enter}
 
 pub record Turn : Type 0 where  -- SPECIFICATION 9.1, one call of a run: the ledger before it, the book's reply and the ledger's
@@ -84,16 +84,16 @@ pub record Kept (turns : List Turn) : Type 0 where  -- what holds of a run
   pub bound : Each Bound turns
   pub missed : Missed turns
 
-abbrev pub Writes : List ℕ → List Turn → Step → Type 0  -- SPECIFICATION 9.6: a replay writes number and sum of each of its turns; the other words stay
-Writes ws turns (once call) = Unit {0}
-Writes ws turns (replayed trace day answers) = replay ws trace day answers .answers ≡ written (map (λ t. t .book) turns) answers
+abbrev pub WritesTurns : List ℕ → List Turn → Step → Type 0  -- SPECIFICATION 9.6: a replay writes number and sum of each of its turns; the other words stay
+WritesTurns ws turns (once call) = Unit {0}
+WritesTurns ws turns (replayed trace day answers) = replay ws trace day answers .answers ≡ withAnswers (map (λ t. t .book) turns) answers
 
-abbrev pub Written : List ℕ → Ledger → List Step → Type 0  -- SPECIFICATION 9.6: each replay of a run does
-Written ws l [] = Unit {0}
-Written ws l (step ∷ steps) = Writes ws (runCalls ws l (callsOf step)) step × Written (leaves ws step) (ledgerBy ws l (callsOf step)) steps
+abbrev pub EachWrites : List ℕ → Ledger → List Step → Type 0  -- SPECIFICATION 9.6: each replay of a run does
+EachWrites ws l [] = Unit {0}
+EachWrites ws l (step ∷ steps) = WritesTurns ws (runCalls ws l (callsOf step)) step × EachWrites (leaves ws step) (ledgerBy ws l (callsOf step)) steps
 
 unfoldable pub Claim : Type 0  -- SPECIFICATION 9.5: for every list of calls and replays, from the words that an accepted make left on any words, and from its ledger
 Claim = (before : List ℕ) (k n m g : ℕ) → perform before (Make k n m g) .reply .number ≡ 0 → (steps : List Step) →
     let ws = perform before (Make k n m g) .left in
     let l = ledgerOf (shaped k n m g) 0 [] in
-    Kept (run ws l steps) × Written ws l steps
+    Kept (run ws l steps) × EachWrites ws l steps

@@ -24,8 +24,8 @@ answerWords = 2
 abbrev pub answerOf : Reply → List ℕ  -- SPECIFICATION 17.1: the number of the refusal or 0, the sum or 0
 answerOf r = r .number ∷ getD (r .values) 0 0 ∷ []
 
-abbrev pub written : List Reply → List ℕ → List ℕ  -- SPECIFICATION 17.1: the answers to these replies, and after them the words that were there
-written replies before = let answers = join (map answerOf replies) in answers ++ drop (length answers) before
+abbrev pub withAnswers : List Reply → List ℕ → List ℕ  -- SPECIFICATION 17.1: the answers to these replies, and after them the words that were there
+withAnswers replies before = let answers = join (map answerOf replies) in answers ++ drop (length answers) before
 
 abbrev pub replayRefusals : List ℕ → ℕ → ℕ → List (Bool × ℕ)  -- SPECIFICATION 17.2: those of finding the day, then room for fewer answers than records
 replayRefusals trace day room = dayRefusals trace day ++ (ltb room (answerWords * length (recordsOf (dayPart trace day))), 15) ∷ []
@@ -45,5 +45,5 @@ replay ws trace day answers =
     record {
       reply = cond (eqb number 0) (accepted []) (refused number);
       book = leftBy ws calls;
-      answers = written (repliesTo ws calls) answers;
+      answers = withAnswers (repliesTo ws calls) answers;
     }

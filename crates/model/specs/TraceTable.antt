@@ -77,8 +77,8 @@ traces =
     -- days are numbered from 0; 14 comes before 15
     ∷ refusing week 2 [] 14
     ∷ refusing (0 ∷ []) 0 [] 14
-    -- a refused record does not stop the replay: grade 9, then a question
-    ∷ accepting made₀ (1 ∷ 3 ∷ 8 ∷ 2 ∷ 9 ∷ 0 ∷ 1 ∷ 3 ∷ 0 ∷ 4 ∷ 0 ∷ []) 0 (replicate 4 7) (2 ∷ 9 ∷ 0 ∷ 1 ∷ 3 ∷ 0 ∷ 4 ∷ 0 ∷ []) (3 ∷ 0 ∷ 0 ∷ 0 ∷ []) []
+    -- a refused record does not stop the replay: grade 9, then a clock
+    ∷ accepting made₀ (1 ∷ 3 ∷ 8 ∷ 2 ∷ 9 ∷ 0 ∷ 1 ∷ clockOnly 3) 0 (replicate 4 7) (2 ∷ 9 ∷ 0 ∷ 1 ∷ clockOnly 3) (3 ∷ 0 ∷ 0 ∷ 0 ∷ []) (Clock 3 ∷ [])
     -- a short book, and one with no sound head, refuse each record and not the replay
     ∷ accepting (replicate 7 0) week 1 (replicate 10 7) p₃Day (2 ∷ 0 ∷ 2 ∷ 0 ∷ 2 ∷ 0 ∷ 2 ∷ 0 ∷ 2 ∷ 0 ∷ []) []
     ∷ accepting (replicate 8 0) (one (clockOnly 3)) 0 (replicate 2 7) (clockOnly 3) (7 ∷ 0 ∷ []) []

@@ -12,7 +12,7 @@ use Rattle.model.specs.declared.Call.{Call}
 use Rattle.model.specs.Block.{upFrom}
 use Rattle.model.specs.Calls.{firstOf}
 use Rattle.model.specs.Trace.{recordWords, recordAt, recordsOf, callOf, dayCount, dayPart, soundTrace, dayRefusals}
-use Rattle.model.specs.Replay.{leftBy, repliesTo, answerWords, written, replayRefusals, replayCalls, Replayed, replay}
+use Rattle.model.specs.Replay.{leftBy, repliesTo, answerWords, withAnswers, replayRefusals, replayCalls, Replayed, replay}
 
 -- the calls of a day's words
 abbrev pub dayCalls : List ℕ → List Call
@@ -22,7 +22,7 @@ unfoldable pub replayPart : List ℕ → List ℕ → List ℕ → Replayed
 replayPart ws day answers =
     cond (ltb (length answers) (answerWords * length (recordsOf day)))
     (record { reply = refused 15; book = ws; answers = answers })
-    (record { reply = accepted []; book = leftBy ws (dayCalls day); answers = written (repliesTo ws (dayCalls day)) answers })
+    (record { reply = accepted []; book = leftBy ws (dayCalls day); answers = withAnswers (repliesTo ws (dayCalls day)) answers })
 
 length-upFrom : {A : Type 0} (f : ℕ → A) (i c : ℕ) → length (upFrom f i c) ≡ c
 length-upFrom f i zero = refl
@@ -39,7 +39,7 @@ module _ (ws day answers : List ℕ) where
   part-cramped h = rw (lt-ltb (length answers) (answerWords * length (recordsOf day)) h)
 
   pub part-played : answerWords * length (recordsOf day) ≤ length answers
-      → record { reply = accepted []; book = leftBy ws (dayCalls day); answers = written (repliesTo ws (dayCalls day)) answers } ≡ replayPart ws day answers
+      → record { reply = accepted []; book = leftBy ws (dayCalls day); answers = withAnswers (repliesTo ws (dayCalls day)) answers } ≡ replayPart ws day answers
   unfolding replayPart
   part-played h = rw (le-ltb (length answers) (answerWords * length (recordsOf day)) h)
 
@@ -74,9 +74,9 @@ module _ (ws trace : List ℕ) (day : ℕ) (answers : List ℕ) where
       go : (t : Bool) → _≡_ {A = Replayed} (
           let n : ℕ = cond t 15 0 in
           let calls : List Call = cond (eqb n 0) (dayCalls (dayPart trace day)) [] in
-          record { reply = cond (eqb n 0) (accepted []) (refused n); book = leftBy ws calls; answers = written (repliesTo ws calls) answers })
+          record { reply = cond (eqb n 0) (accepted []) (refused n); book = leftBy ws calls; answers = withAnswers (repliesTo ws calls) answers })
           (cond t (record { reply = refused 15; book = ws; answers = answers })
-          (record { reply = accepted []; book = leftBy ws (dayCalls (dayPart trace day)); answers = written (repliesTo ws (dayCalls (dayPart trace day))) answers }))
+          (record { reply = accepted []; book = leftBy ws (dayCalls (dayPart trace day)); answers = withAnswers (repliesTo ws (dayCalls (dayPart trace day))) answers }))
       go true = refl
       go false = refl
 

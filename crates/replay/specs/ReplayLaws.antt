@@ -12,7 +12,7 @@ use Rattle.model.specs.Block.{upFrom}
 use Rattle.model.specs.Words.{join}
 use Rattle.model.specs.Calls.{perform}
 use Rattle.model.specs.Trace.{recordWords, recordAt, callOf}
-use Rattle.model.specs.Replay.{leftBy, repliesTo, answerWords, answerOf, written}
+use Rattle.model.specs.Replay.{leftBy, repliesTo, answerWords, answerOf, withAnswers}
 use Rattle.replay.specs.Part.{dayCalls}
 
 -- two words written, one after the other
@@ -87,7 +87,7 @@ module _ (book₀ day answers₀ : List ℕ) (i : ℕ) (book answers : List ℕ)
       }
 
   pub played-end : length day / recordWords ≤ i → to ≤ length answers
-      → (book ≡ leftBy book₀ (dayCalls day)) × (answers ≡ written (repliesTo book₀ (dayCalls day)) answers₀)
+      → (book ≡ leftBy book₀ (dayCalls day)) × (answers ≡ withAnswers (repliesTo book₀ (dayCalls day)) answers₀)
   played-end none room =
       let over : callsFrom day i ≡ [] = callsFrom-end day i none in
       let words : take to answers ≡ answersTo book₀ (dayCalls day) = sym (append-nil (take to answers)) ∙ rw over at (p .told) in

@@ -16,7 +16,7 @@ ghost use lib.ListN.{length, getD, set};
 ghost use Rattle.model.specs.Reply.{replyOf};
 ghost use Rattle.model.specs.Calls.{perform};
 ghost use Rattle.model.specs.Trace.{recordsOf, callOf};
-ghost use Rattle.model.specs.Replay.{answerWords, leftBy, repliesTo, written, replay};
+ghost use Rattle.model.specs.Replay.{answerWords, leftBy, repliesTo, withAnswers, replay};
 ghost use Rattle.replay.specs.Part.{replayPart};
 
 // The sum of an answered question, else 0.
@@ -46,7 +46,7 @@ fn play(book: &mut [u32], it: Record, answers: &mut [u32], to: usize)
 fn play_day(book: &mut [u32], day: &[u32], answers: &mut [u32])
     requires { ⌜ answerWords * length (recordsOf (now day)) ≤ length (now answers) ⌝ }
     ensures left { λ _. ⌜ now (book .exit) ≡ leftBy (now (book .entry)) (map callOf (recordsOf (now (day .entry)))) ⌝ }
-    ensures told { λ _. ⌜ now (answers .exit) ≡ written (repliesTo (now (book .entry)) (map callOf (recordsOf (now (day .entry))))) (now (answers .entry)) ⌝ }
+    ensures told { λ _. ⌜ now (answers .exit) ≡ withAnswers (repliesTo (now (book .entry)) (map callOf (recordsOf (now (day .entry))))) (now (answers .entry)) ⌝ }
 {
     let count = day.len() / RECORD_WORDS;
     let mut i: usize = 0;

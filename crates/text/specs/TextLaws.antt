@@ -14,7 +14,7 @@ use Rattle.shape.specs.LimitsLaws.{both}
 use Rattle.model.specs.Reply.{numberOf, replyOf}
 use Rattle.model.specs.declared.Answer.the-variants.{Refused}
 use Rattle.model.specs.declared.Refusal.{Refusal}
-use Rattle.model.specs.declared.Refusal.the-variants.{Shape, Length, Grade, Volume, Window, Limit, Head, Ahead, Late, Back, Block, Full}
+use Rattle.model.specs.declared.Refusal.the-variants.{Shape, Length, Grade, Volume, Window, Limit, Head, Ahead, Late, Back, Block, Full, Trace, Day, Room}
 use Rattle.laws.specs.Cond.{by-lt, and-true}
 use Rattle.grammar.specs.Grammar.{every, isDigit, valueFrom, valueOf, isDecimal}
 use Rattle.text.specs.Text.{digitsOf, decimal, numbered, sumWord, refusedWord, acceptedText, textOf, unreadText, written, stored}
@@ -115,6 +115,9 @@ refused-text Late = refl
 refused-text Back = refl
 refused-text Block = refl
 refused-text Full = refl
+refused-text Trace = refl
+refused-text Day = refl
+refused-text Room = refl
 
 -- ---- the digits of a number are decimal, and have its value
 

@@ -47,12 +47,43 @@ laid-lies trace (suc c) at i j e low high =
     ⊎-elim
     (λ (l : i < j). laid-lies trace c (at + dayLength trace i) (suc i) j (p .1) l (omega arith))
     (λ (g : j ≤ i).
-        let same : i ≡ j = omega arith in
-        rw same at (here (eqb-true (dayStart trace i) at (p .0)) (laid-within trace c (at + dayLength trace i) (suc i) (p .1))))
+    let same : i ≡ j = omega arith in
+    rw same at (here (eqb-true (dayStart trace i) at (p .0)) (laid-within trace c (at + dayLength trace i) (suc i) (p .1))))
     (lt-or-ge i j)
   where
     here : dayStart trace i ≡ at → at + dayLength trace i ≤ length trace → dayStart trace i + dayLength trace i ≤ length trace
     here s w = omega arith
+
+-- the layout in other words: the first day starts at `at`, each other where the day before ends, so the days are sorted; the last one ends
+-- with the trace
+module _ (trace : List ℕ) where
+  pub laid-first : (c at i : ℕ) → laid trace at i (suc c) ≡ true → dayStart trace i ≡ at
+  laid-first c at i e = eqb-true (dayStart trace i) at (both e .0)
+
+  pub laid-next : (c at i j : ℕ) → laid trace at i c ≡ true → i ≤ j → suc j < i + c → dayStart trace (suc j) ≡ dayStart trace j + dayLength trace j
+  laid-next zero at i j e low high = absurd (omega arith)
+  laid-next (suc zero) at i j e low high = absurd (omega arith)
+  laid-next (suc (suc c)) at i j e low high =
+      let p : (eqb (dayStart trace i) at ≡ true) × (laid trace (at + dayLength trace i) (suc i) (suc c) ≡ true) = both e in
+      ⊎-elim
+      (λ (l : i < j). laid-next (suc c) (at + dayLength trace i) (suc i) j (p .1) l (omega arith))
+      (λ (g : j ≤ i).
+      let same : i ≡ j = omega arith in
+      rw same at (laid-first c (at + dayLength trace i) (suc i) (p .1) ∙ ap (λ (z : ℕ). z + dayLength trace i) (sym (eqb-true (dayStart trace i) at (p .0)))))
+      (lt-or-ge i j)
+
+  pub laid-sorted : (c at i j : ℕ) → laid trace at i c ≡ true → i ≤ j → suc j < i + c → dayStart trace j ≤ dayStart trace (suc j)
+  laid-sorted c at i j e low high = omega (arith, laid-next c at i j e low high)
+
+  pub laid-last : (c at i : ℕ) → laid trace at i (suc c) ≡ true → dayStart trace (i + c) + dayLength trace (i + c) ≡ length trace
+  laid-last zero at i e =
+      let p : (eqb (dayStart trace i) at ≡ true) × (eqb (at + dayLength trace i) (length trace) ≡ true) = both e in
+      let here : i + 0 ≡ i = omega arith in
+      rw here (ap (λ (z : ℕ). z + dayLength trace i) (eqb-true (dayStart trace i) at (p .0)) ∙ eqb-true (at + dayLength trace i) (length trace) (p .1))
+  laid-last (suc c) at i e =
+      let p : (eqb (dayStart trace i) at ≡ true) × (laid trace (at + dayLength trace i) (suc i) (suc c) ≡ true) = both e in
+      let next : i + suc c ≡ suc i + c = omega arith in
+      rw next (laid-last c (at + dayLength trace i) (suc i) (p .1))
 
 -- ---- a sound trace
 

@@ -28,15 +28,18 @@ laid-past trace (suc c) at j h = and-false (eqb (dayStart trace j) at) (laid-pas
 pub laid-within : (trace : List ℕ) (c at j : ℕ) → laid trace at j c ≡ true → at ≤ length trace
 laid-within trace c at j e = ⊎-elim (λ (l : length trace < at). absurd (true≢false (sym e ∙ laid-past trace c at j l))) (λ (g : at ≤ length trace). g) (lt-or-ge (length trace) at)
 
+-- what is left of the layout at day j
 module _ (trace : List ℕ) (days at j : ℕ) where
-  -- what is left of the layout at day j
-  abbrev pub laidFrom : Bool
-  laidFrom = laid trace at j (days - j)
-
-  pub laid-step : j < days → laidFrom ≡ (eqb (dayStart trace j) at && laid trace (at + dayLength trace j) (j + 1) (days - (j + 1)))
+  laid-step : j < days → laid trace at j (days - j) ≡ (eqb (dayStart trace j) at && laid trace (at + dayLength trace j) (j + 1) (days - (j + 1)))
   laid-step h = let left : days - j ≡ suc (days - (j + 1)) = omega arith in rw (left, add-one)
 
-  pub laid-end : days ≤ j → laidFrom ≡ eqb at (length trace)
+  pub laid-apart : j < days → (dayStart trace j ≡ at → ⊥) → laid trace at j (days - j) ≡ false
+  laid-apart more h = laid-step more ∙ rw (ne-eqb (dayStart trace j) at h)
+
+  pub laid-meets : j < days → dayStart trace j ≡ at → laid trace at j (days - j) ≡ laid trace (at + dayLength trace j) (j + 1) (days - (j + 1))
+  laid-meets more h = laid-step more ∙ rw (eq-eqb (dayStart trace j) at h)
+
+  pub laid-end : days ≤ j → laid trace at j (days - j) ≡ eqb at (length trace)
   laid-end h = let left : days - j ≡ 0 = omega arith in rw left
 
 -- each day of a layout lies in the trace
@@ -108,29 +111,29 @@ sound-laid trace e =
       sound = r .1;
     }
 
--- what makes a trace unsound, in the order of the code's tests
+-- what makes a trace unsound, by the code's tests
 module _ (trace : List ℕ) where
+  abbrev layout : Bool
+  layout = laid trace (pairStart (dayCount trace)) 0 (dayCount trace)
+
+  abbrev allSound : Bool
+  allSound = allFrom (λ j. soundDay (dayPart trace j)) 0 (dayCount trace)
+
   pub unsound-none : length trace ≡ 0 → false ≡ soundTrace trace
   unfolding soundTrace
   unsound-none h = rw (le-ltb 0 (length trace) (omega arith))
 
-  module _ (some : 0 < length trace) where
-    pub unsound-many : maxDays < dayCount trace → false ≡ soundTrace trace
-    unfolding soundTrace
-    unsound-many h = rw (lt-ltb 0 (length trace) some, lt-leb (dayCount trace) maxDays h)
+  pub unsound-many : maxDays < dayCount trace → false ≡ soundTrace trace
+  unfolding soundTrace
+  unsound-many h = rw (lt-leb (dayCount trace) maxDays h) (sym (and-false (ltb 0 (length trace)) refl))
 
-    module _ (few : dayCount trace ≤ maxDays) where
-      sound-rest : soundTrace trace
-          ≡ (laid trace (pairStart (dayCount trace)) 0 (dayCount trace) && allFrom (λ j. soundDay (dayPart trace j)) 0 (dayCount trace))
-      unfolding soundTrace
-      sound-rest = rw (lt-ltb 0 (length trace) some, le-leb (dayCount trace) maxDays few)
+  pub unsound-layout : layout ≡ false → false ≡ soundTrace trace
+  unfolding soundTrace
+  unsound-layout h = rw h (sym (and-false (ltb 0 (length trace)) (and-false (leb (dayCount trace) maxDays) refl)))
 
-      pub unsound-layout : laid trace (pairStart (dayCount trace)) 0 (dayCount trace) ≡ false → false ≡ soundTrace trace
-      unsound-layout h = rw (sound-rest, h)
-
-      pub sound-days : laid trace (pairStart (dayCount trace)) 0 (dayCount trace) ≡ true
-          → allFrom (λ j. soundDay (dayPart trace j)) 0 (dayCount trace) ≡ soundTrace trace
-      sound-days h = rw (sound-rest, h)
+  pub sound-days : 0 < length trace → dayCount trace ≤ maxDays → layout ≡ true → allSound ≡ soundTrace trace
+  unfolding soundTrace
+  sound-days some few h = rw (lt-ltb 0 (length trace) some, le-leb (dayCount trace) maxDays few, h)
 
 -- ---- what finding a day answers
 

@@ -1,14 +1,13 @@
 -- What is left of the layout at each day, and what is passed, give the whole.
 use native.Mathlib.Omega.{arith}
 use borrow.Author.Needs.{needs}
-use borrow.Author.Tests.{eq-eqb, ne-eqb}
 use mathlib.Core.Path.{_≡_, sym, ap, _∙_}
-use Prim.Native.Nat.{ℕ, _+_, _-_, _≤_, _<_}
+use Prim.Native.Nat.{ℕ, _+_, _-_, _≤_}
 use native.Mathlib.Nat.{sub-zero}
 use lib.ListN.{length}
 use Rattle.model.specs.Trace.{pairStart, dayStart, dayLength, laid}
 use Rattle.days.specs.declared.Pair.{Pair}
-use Rattle.trace.specs.TraceLaws.{laid-past, laid-step, laid-end}
+use Rattle.trace.specs.TraceLaws.{laid-past, laid-apart, laid-meets, laid-end}
 use Rattle.trace.proofs.is_laid.Statement.{statement}
 use Rattle.trace.proofs.is_laid.Tie as tie
 
@@ -17,6 +16,22 @@ Inv-loop trace days at₀ j₀ at j = (j ≤ days) × (at ≤ length trace) × (
 
 abbrev μ-loop : tie.MeasureT-loop
 μ-loop trace days at₀ j₀ at j = days - j
+
+-- the pair that was read is the day's
+starts : (c : tie.After-wide Inv-loop μ-loop) → c .wide .result ≡ dayStart (c .before .before .before .before .before .args .trace .now) (c .before .before .before .loop .j)
+starts c = c .wide .ensures ∙ ap (λ (p : Pair). p .start) (c .before .pair-at .ensures)
+
+-- a day that starts where it must leaves the rest of the layout
+meets : (c : tie.After-wide2 Inv-loop μ-loop) → let l = c .before .before .before .before .before in
+    let a = l .before .before .args in
+    laid (a .trace .now) (l .loop .at) (l .loop .j) (a .days - l .loop .j) ≡ laid (a .trace .now) (l .loop .at + c .wide2 .result) (l .loop .j + 1) (a .days - (l .loop .j + 1))
+meets c =
+    let w = c .before .before in
+    let l = w .before .before .before in
+    let a = l .before .before .args in
+    let sized : c .wide2 .result ≡ dayLength (a .trace .now) (l .loop .j) = c .wide2 .ensures ∙ ap (λ (p : Pair). p .length) (w .before .pair-at .ensures) in
+    laid-meets (a .trace .now) (a .days) (l .loop .at) (l .loop .j) (w .before .before .loop-test .taken) (sym (starts w) ∙ c .before .if1 .left)
+    ∙ ap (λ (n : ℕ). laid (a .trace .now) (l .loop .at + n) (l .loop .j + 1) (a .days - (l .loop .j + 1))) (sym sized)
 
 mul-at : tie.Need-mul-at Inv-loop μ-loop
 mul-at c = search needs
@@ -36,10 +51,8 @@ wide-requires c κs = search needs
 returns : tie.Need-returns Inv-loop μ-loop
 returns c =
     let l = c .before .before .before .before in
-    let trace = l .before .before .args .trace .now in
-    let j : ℕ = l .loop .j in
-    let starts : c .before .wide .result ≡ dayStart trace j = c .before .wide .ensures ∙ ap (λ (p : Pair). p .start) (c .before .before .pair-at .ensures) in
-    rw (laid-step trace (l .before .before .args .days) (l .loop .at) j (c .before .before .before .loop-test .taken), ne-eqb (dayStart trace j) (l .loop .at) (λ e. c .if1 .taken (starts ∙ e))) at (l .loop .inv .2)
+    let a = l .before .before .args in
+    sym (laid-apart (a .trace .now) (a .days) (l .loop .at) (l .loop .j) (c .before .before .before .loop-test .taken) (λ e. c .if1 .taken (starts (c .before) ∙ e))) ∙ l .loop .inv .2
 
 wide-requires-2 : tie.Need-wide-requires-2 Inv-loop μ-loop
 wide-requires-2 c κs = search needs
@@ -49,17 +62,10 @@ sub-if2 c = search needs
 
 returns-2 : tie.Need-returns-2 Inv-loop μ-loop
 returns-2 c =
-    let w = c .before in
-    let p = w .before .before .before in
-    let l = p .before .before in
-    let trace = l .before .before .args .trace .now in
-    let days : ℕ = l .before .before .args .days in
-    let at : ℕ = l .loop .at in
-    let j : ℕ = l .loop .j in
-    let starts : w .before .before .wide .result ≡ dayStart trace j = w .before .before .wide .ensures ∙ ap (λ (z : Pair). z .start) (p .pair-at .ensures) in
-    let sized : w .wide2 .result ≡ dayLength trace j = w .wide2 .ensures ∙ ap (λ (z : Pair). z .length) (p .pair-at .ensures) in
-    let past : length trace < at + dayLength trace j = omega (arith, c .if2 .taken, l .loop .inv .1, sized) in
-    rw (laid-step trace days at j (p .before .loop-test .taken), eq-eqb (dayStart trace j) at (sym starts ∙ w .before .if1 .left), laid-past trace (days - (j + 1)) (at + dayLength trace j) (j + 1) past) at (l .loop .inv .2)
+    let l = c .before .before .before .before .before .before in
+    let a = l .before .before .args in
+    let none = laid-past (a .trace .now) (a .days - (l .loop .j + 1)) (l .loop .at + c .before .wide2 .result) (l .loop .j + 1) (omega (arith, c .if2 .taken, l .loop .inv .1)) in
+    sym none ∙ sym (meets (c .before)) ∙ l .loop .inv .2
 
 add-at-2 : tie.Need-add-at-2 Inv-loop μ-loop
 add-at-2 c = search needs
@@ -71,17 +77,7 @@ loop-less : tie.Need-loop-less Inv-loop μ-loop
 loop-less c = search needs
 
 loop-again : tie.Need-loop-again Inv-loop μ-loop
-loop-again c =
-    let w = c .before in
-    let p = w .before .before .before in
-    let l = p .before .before in
-    let trace = l .before .before .args .trace .now in
-    let days : ℕ = l .before .before .args .days in
-    let at : ℕ = l .loop .at in
-    let j : ℕ = l .loop .j in
-    let starts : w .before .before .wide .result ≡ dayStart trace j = w .before .before .wide .ensures ∙ ap (λ (z : Pair). z .start) (p .pair-at .ensures) in
-    let sized : w .wide2 .result ≡ dayLength trace j = w .wide2 .ensures ∙ ap (λ (z : Pair). z .length) (p .pair-at .ensures) in
-    (omega arith, omega arith, rw (laid-step trace days at j (p .before .loop-test .taken), eq-eqb (dayStart trace j) at (sym starts ∙ w .before .if1 .left), ← sized) at (l .loop .inv .2))
+loop-again c = (omega arith, omega arith, sym (meets (c .before)) ∙ c .before .before .before .before .before .before .loop .inv .2)
 
 returns-3 : tie.Need-returns-3 Inv-loop μ-loop
 returns-3 c =

@@ -24,7 +24,7 @@ wide-requires c κs = search needs
 returns-2 : tie.Need-returns-2
 returns-2 c =
     let trace = c .before .before .before .before .before .args .trace .now in
-    unsound-many trace (omega arith) (omega arith)
+    unsound-many trace (omega arith)
 
 mul-if3 : tie.Need-mul-if3
 mul-if3 c = search needs
@@ -35,7 +35,7 @@ add-if3 c = search needs
 returns-3 : tie.Need-returns-3
 returns-3 c =
     let trace = c .before .before .before .before .before .before .args .trace .now in
-    unsound-layout trace (omega arith) (omega arith) (laid-past trace (dayCount trace) (pairStart (dayCount trace)) 0 (omega arith))
+    unsound-layout trace (laid-past trace (dayCount trace) (pairStart (dayCount trace)) 0 (omega arith))
 
 is-laid-requires : tie.Need-is-laid-requires
 is-laid-requires c κs = search needs
@@ -45,7 +45,7 @@ returns-4 c =
     let w = c .before .before .before .before in
     let trace = w .before .before .before .before .args .trace .now in
     let days : w .wide .result ≡ dayCount trace = w .wide .ensures in
-    unsound-layout trace (omega arith) (omega arith) (ap (λ (z : ℕ). laid trace (pairStart z) 0 z) (sym days) ∙ sym (c .before .is-laid .ensures) ∙ not-true _ (c .if4 .taken))
+    unsound-layout trace (ap (λ (z : ℕ). laid trace (pairStart z) 0 z) (sym days) ∙ sym (c .before .is-laid .ensures) ∙ not-true _ (c .if4 .taken))
 
 are-sound-days-requires : tie.Need-are-sound-days-requires
 are-sound-days-requires c κs = (omega arith, sym (c .before .is-laid .ensures) ∙ not-false _ (c .if4 .left))

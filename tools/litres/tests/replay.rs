@@ -1,14 +1,10 @@
 //! Traces through the archive: the example of document 02, request Two, and the refusals of a replay.
 
+use draw::trace::EXAMPLE;
 use litres::{
-    clock, delivery, find_day, make, query, replay, Refused, ANSWER_WORDS, KIND_CLOCK,
-    KIND_DELIVERY, KIND_QUERY, MAX_DAYS, RECORD_WORDS,
+    find_day, make, replay, Refused, ANSWER_WORDS, KIND_CLOCK, KIND_DELIVERY, KIND_QUERY, MAX_DAYS,
+    RECORD_WORDS,
 };
-
-/// Day 0 is empty, day 1 has a clock, three deliveries and a question.
-const EXAMPLE: [u32; 25] = [
-    2, 5, 0, 5, 20, 1, 3, 0, 0, 2, 0, 0, 3, 2, 0, 3, 1, 2, 0, 1, 1, 3, 0, 2, 0,
-];
 
 fn made() -> Vec<u32> {
     let mut book = vec![u32::MAX; 90];
@@ -22,13 +18,9 @@ fn the_example() {
     let mut answers = [7; 11];
     assert_eq!(replay(&mut book, &EXAMPLE, 1, &mut answers), Ok(()));
     assert_eq!(answers, [0, 0, 0, 0, 0, 0, 0, 0, 0, 1, 7]);
-    let mut apart = made();
-    clock(&mut apart, 3).unwrap();
-    for (stamp, volume) in [(0, 3), (3, 1), (1, 1)] {
-        delivery(&mut apart, 0, stamp, volume).unwrap();
-    }
-    assert_eq!(query(&apart, 0, 2), Ok(1));
-    assert_eq!(book, apart);
+    let mut second = made();
+    reference::replay::replay(&mut second, &EXAMPLE, 1, &mut [7; 10]).unwrap();
+    assert_eq!(book, second);
 }
 
 /// The day lives as long as the trace, whatever became of the number that named it.

@@ -1,13 +1,9 @@
 //! Finding a day and replaying it: the example, the refusals and their order, and what is written.
 
+use draw::trace::EXAMPLE;
 use reference::calls::{clock, deliver, make, perform, query};
 use reference::replay::{answer_words, calls, find_day, replay, ANSWER_WORDS};
 use reference::trace::{lay_out, Record};
-
-/// Day 0 is empty, day 1 has five records.
-const EXAMPLE: [u32; 25] = [
-    2, 5, 0, 5, 20, 1, 3, 0, 0, 2, 0, 0, 3, 2, 0, 3, 1, 2, 0, 1, 1, 3, 0, 2, 0,
-];
 
 fn made() -> Vec<u32> {
     let mut book = vec![0; 90];

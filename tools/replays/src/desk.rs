@@ -9,7 +9,7 @@ use reference::calls::{Answer, Call, Reply};
 use reference::replay::{self, answer_words, ANSWER_WORDS};
 
 use crate::difference::{Asked, Difference, Of, What};
-use crate::implementation::Implementation;
+use crate::implementation::{Implementation, Lent};
 
 /// Words past the book, for replays that are lent more than it has.
 pub const TAIL: usize = 24;
@@ -84,13 +84,11 @@ impl Desk {
             answers: self.answers(room),
         };
         let mut ours = before.clone();
-        let (book, answers) = self.lent(&mut ours, asked);
-        let expected = replay::replay(book, trace, day, answers);
+        let expected = self.lent(&mut ours, asked).by(replay::replay);
         let refused_writes = expected.is_err() && ours != before;
         assert!(!refused_writes, "the second program: {asked:?}");
         let mut theirs = before.clone();
-        let (book, answers) = self.lent(&mut theirs, asked);
-        let found = implementation.replay(book, trace, day, answers);
+        let found = implementation.replay(self.lent(&mut theirs, asked));
         if found != expected {
             let [expected, found] = [expected, found].map(|reply| reply.err().unwrap_or(0));
             return Err(asked.difference(What::Number { expected, found }));
@@ -103,7 +101,7 @@ impl Desk {
         }
         let calls = replay::calls(trace, day, room);
         let mut apart = before.clone();
-        let (book, answers) = self.lent(&mut apart, asked);
+        let Lent { book, answers, .. } = self.lent(&mut apart, asked);
         let places = answers.chunks_mut(ANSWER_WORDS);
         for (call, place) in calls.iter().flatten().zip(places) {
             place.copy_from_slice(&answer_words(implementation.perform(book, *call)));
@@ -128,10 +126,13 @@ impl Desk {
     }
 
     /// What a replay is lent of a side.
-    fn lent<'s>(&self, side: &'s mut Side, asked: Asked) -> (&'s mut [u32], &'s mut [u32]) {
-        let book = self.start..self.start + asked.lent;
-        let answers = MARGIN..MARGIN + asked.room;
-        (&mut side.book[book], &mut side.answers[answers])
+    fn lent<'l>(&self, side: &'l mut Side, asked: Asked<'l>) -> Lent<'l> {
+        Lent {
+            book: &mut side.book[self.start..self.start + asked.lent],
+            trace: asked.trace,
+            day: asked.day,
+            answers: &mut side.answers[MARGIN..MARGIN + asked.room],
+        }
     }
 
     fn first_word(

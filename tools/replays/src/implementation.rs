@@ -3,6 +3,25 @@
 use reference::calls::{self, Call, Reply};
 use reference::replay;
 
+/// What a replay is lent.
+pub struct Lent<'l> {
+    /// The book.
+    pub book: &'l mut [u32],
+    /// The trace.
+    pub trace: &'l [u32],
+    /// Which day of it.
+    pub day: u32,
+    /// Where the answers go.
+    pub answers: &'l mut [u32],
+}
+
+impl Lent<'_> {
+    /// Has a function of the four replay the day.
+    pub fn by<R>(self, replay: impl FnOnce(&mut [u32], &[u32], u32, &mut [u32]) -> R) -> R {
+        replay(self.book, self.trace, self.day, self.answers)
+    }
+}
+
 /// An implementation of the calls and of traces. What it does not name is the second program's own, so
 /// that a wrong stand-in names only what is wrong.
 pub trait Implementation {
@@ -12,14 +31,8 @@ pub trait Implementation {
     }
 
     /// Replays a day.
-    fn replay(
-        &self,
-        book: &mut [u32],
-        trace: &[u32],
-        day: u32,
-        answers: &mut [u32],
-    ) -> Result<(), u32> {
-        replay::replay(book, trace, day, answers)
+    fn replay(&self, lent: Lent) -> Result<(), u32> {
+        lent.by(replay::replay)
     }
 
     /// Performs a call by itself.
@@ -36,14 +49,8 @@ impl Implementation for Archive {
         archive::find_day(trace, day)
     }
 
-    fn replay(
-        &self,
-        book: &mut [u32],
-        trace: &[u32],
-        day: u32,
-        answers: &mut [u32],
-    ) -> Result<(), u32> {
-        archive::replay(book, trace, day, answers)
+    fn replay(&self, lent: Lent) -> Result<(), u32> {
+        lent.by(archive::replay)
     }
 
     fn perform(&self, book: &mut [u32], call: Call) -> Reply {

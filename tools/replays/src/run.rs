@@ -44,7 +44,7 @@ pub fn run(
     seed: u64,
     traces: impl Iterator<Item = u64>,
 ) -> Result<Summary, Box<Failure>> {
-    let mut summary = Summary::new();
+    let mut summary = Summary::default();
     for trace in traces {
         let mut random = Random::of_trial(seed, trace);
         let result = trial(implementation, &mut random, &mut summary);

@@ -27,9 +27,9 @@ pub struct Summary {
     lists: Tally,
 }
 
-impl Summary {
-    /// Nothing counted yet.
-    pub fn new() -> Summary {
+/// Nothing counted yet.
+impl Default for Summary {
+    fn default() -> Summary {
         let ways = [
             "any days",
             "all days in turn",
@@ -62,7 +62,9 @@ impl Summary {
             lists: Tally::new(lists, TRACES_FOR_ALL / 4),
         }
     }
+}
 
+impl Summary {
     /// Counts a trial by what it does.
     pub fn add_way(&mut self, way: &str) {
         self.ways.add(way);
@@ -134,12 +136,6 @@ impl Summary {
             &self.lists,
         ];
         tallies.into_iter().flat_map(Tally::faults).collect()
-    }
-}
-
-impl Default for Summary {
-    fn default() -> Summary {
-        Summary::new()
     }
 }
 

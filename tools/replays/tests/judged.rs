@@ -1,4 +1,4 @@
-//! A usual run finds wrong refusals of a whole replay, and wrong parts.
+//! A usual run finds wrong refusals of a whole replay.
 
 mod wrong;
 
@@ -6,8 +6,7 @@ use std::ops::Range;
 
 use reference::replay::{calls, find_day, replay, ANSWER_WORDS};
 use reference::trace::{self, days, parts, record_faults, Fault, CLOCK, RECORD_WORDS};
-use replays::difference::{Difference, What};
-use replays::implementation::Implementation;
+use replays::implementation::{Implementation, Lent};
 use wrong::{assert_equal, difference};
 
 /// The second program, but this says whether a replay with so many answer words is refused, and under
@@ -21,15 +20,9 @@ impl<J: Fn(&[u32], u32, usize) -> Result<(), u32>> Implementation for Judging<J>
         Ok(find_day(trace, day).unwrap_or(&trace[..0]))
     }
 
-    fn replay(
-        &self,
-        book: &mut [u32],
-        trace: &[u32],
-        day: u32,
-        answers: &mut [u32],
-    ) -> Result<(), u32> {
-        (self.0)(trace, day, answers.len())?;
-        let _ = replay(book, trace, day, answers);
+    fn replay(&self, lent: Lent) -> Result<(), u32> {
+        (self.0)(lent.trace, lent.day, lent.answers.len())?;
+        let _ = lent.by(replay);
         Ok(())
     }
 }
@@ -61,12 +54,7 @@ fn assert_found(name: &str, judge: impl Fn(&[u32], u32, usize) -> Result<(), u32
 
 #[test]
 fn nothing_changed() {
-    struct Same;
-    impl Implementation for Same {}
-    assert_equal(&Same);
     let judge = |trace: &[u32], day, room| judged(days(trace), day, room);
-    assert_equal(&Judging(judge));
-    let judge = |trace: &[u32], day, room| judged(forgiving(trace, |_| true), day, room);
     assert_equal(&Judging(judge));
     let judge = |trace: &[u32], day, room| judged(by(trace, Rules::RIGHT), day, room);
     assert_equal(&Judging(judge));
@@ -357,64 +345,4 @@ fn bad_numbers_as_a_broken_trace() {
         }
         Ok(())
     });
-}
-
-/// The second program, but this gives the part of a found day.
-struct Finding<F>(F);
-
-impl<F: Fn(&[u32], Range<usize>, u32) -> Range<usize>> Implementation for Finding<F> {
-    fn find_day<'t>(&self, trace: &'t [u32], day: u32) -> Result<&'t [u32], u32> {
-        find_day(trace, day)?;
-        let part = days(trace).expect("a found day")[day as usize].clone();
-        Ok(&trace[(self.0)(trace, part, day)])
-    }
-}
-
-#[test]
-fn other_parts() {
-    assert_equal(&Finding(|_: &[u32], part, _| part));
-    let next = |trace: &[u32], part: Range<usize>, day: u32| {
-        let days = days(trace).expect("a found day");
-        days.get(day as usize + 1).cloned().unwrap_or(part)
-    };
-    let found = difference(&Finding(next));
-    assert!(matches!(
-        found,
-        Some(Difference::Day {
-            what: What::Part { .. },
-            ..
-        })
-    ));
-    type Part = fn(&[u32], Range<usize>, u32) -> Range<usize>;
-    let wrong: [Part; 3] = [
-        |trace, part, _| part.start..trace.len(),
-        |_, part, _| part.start.min(part.end - part.len() / 4)..part.end - part.len() / 4,
-        // An empty part, but not where the empty day stands.
-        |_, part, _| if part.is_empty() { 0..0 } else { part },
-    ];
-    for (number, wrong) in wrong.into_iter().enumerate() {
-        assert!(difference(&Finding(wrong)).is_some(), "{number}");
-    }
-}
-
-#[test]
-fn a_copy_of_the_day() {
-    struct Copying;
-    impl Implementation for Copying {
-        fn find_day<'t>(&self, trace: &'t [u32], day: u32) -> Result<&'t [u32], u32> {
-            Ok(find_day(trace, day)?.to_vec().leak())
-        }
-    }
-    assert!(difference(&Copying).is_some());
-}
-
-#[test]
-fn an_empty_part_in_place_of_a_refusal() {
-    struct Silent;
-    impl Implementation for Silent {
-        fn find_day<'t>(&self, trace: &'t [u32], day: u32) -> Result<&'t [u32], u32> {
-            Ok(find_day(trace, day).unwrap_or(&trace[..0]))
-        }
-    }
-    assert!(difference(&Silent).is_some());
 }

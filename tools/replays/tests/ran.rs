@@ -5,22 +5,16 @@ mod wrong;
 use reference::calls::{perform, Answer, Call, Reply};
 use reference::replay::{answer_words, calls, replay, ANSWER_WORDS};
 use replays::difference::{Difference, Of, What};
-use replays::implementation::Implementation;
+use replays::implementation::{Implementation, Lent};
 use wrong::{assert_equal, difference};
 
 /// The second program, but this runs the calls of an accepted replay and writes the answers.
 struct Running<R>(R);
 
 impl<R: Fn(&mut [u32], &[Call], &mut [u32])> Implementation for Running<R> {
-    fn replay(
-        &self,
-        book: &mut [u32],
-        trace: &[u32],
-        day: u32,
-        answers: &mut [u32],
-    ) -> Result<(), u32> {
-        let calls = calls(trace, day, answers.len())?;
-        (self.0)(book, &calls, answers);
+    fn replay(&self, lent: Lent) -> Result<(), u32> {
+        let calls = calls(lent.trace, lent.day, lent.answers.len())?;
+        (self.0)(lent.book, &calls, lent.answers);
         Ok(())
     }
 }
@@ -186,15 +180,11 @@ struct After<A>(A);
 impl<A: Fn(&mut [u32], &mut [u32], Result<(), u32>) -> Result<(), u32>> Implementation
     for After<A>
 {
-    fn replay(
-        &self,
-        book: &mut [u32],
-        trace: &[u32],
-        day: u32,
-        answers: &mut [u32],
-    ) -> Result<(), u32> {
-        let reply = replay(book, trace, day, answers);
-        (self.0)(book, answers, reply)
+    fn replay(&self, lent: Lent) -> Result<(), u32> {
+        lent.by(|book, trace, day, answers| {
+            let reply = replay(book, trace, day, answers);
+            (self.0)(book, answers, reply)
+        })
     }
 }
 

@@ -5,6 +5,8 @@ use std::path::{Path, PathBuf};
 use std::process::{Command, Output};
 use std::{env, fs, process};
 
+use draw::trace::EXAMPLE;
+
 /// A folder of this test's own, removed at its end.
 struct Folder(PathBuf);
 
@@ -61,9 +63,6 @@ fn words_of(file: &Path) -> Vec<u32> {
     words.map(|word| u32::from_le_bytes(*word)).collect()
 }
 
-const EXAMPLE: [u32; 25] = [
-    2, 5, 0, 5, 20, 1, 3, 0, 0, 2, 0, 0, 3, 2, 0, 3, 1, 2, 0, 1, 1, 3, 0, 2, 0,
-];
 const LINES: &str = "c 3\nd 0 0 3\nd 0 3 1\nd 0 1 1\nq 0 2\n";
 
 #[test]

@@ -27,8 +27,8 @@
  * is a book as well: a program may store them, and load them on a processor of the same byte order.
  *
  * A trace is an array of 32-bit words with recorded days, numbered from 0. It starts with
- *   word 0               the count of days, 0 to LITRES_MAX_DAYS
- *   words 1 + 2d, 2 + 2d offset and length of day d, both in words; offsets count from word 0
+ *   word 0                 the count of days, 0 to LITRES_MAX_DAYS
+ *   words 1 + 2d, 2 + 2d   offset and length of day d, both in words; offsets count from word 0
  * and then has the days, one after another. The first day starts right after the pairs, each other
  * where the one before ends, and no word follows the last. A day may be empty. It is whole records
  * of LITRES_RECORD_WORDS words each:
@@ -154,9 +154,10 @@ uint32_t litres_day(const uint32_t *trace, size_t trace_len, uint32_t day, size_
 /*
  * Runs the records of a day one after another, each exactly as its own call on the book, and writes
  * LITRES_ANSWER_WORDS words for each to `answers`: 0 or the number of its refusal, then the sum of
- * an answered question or 0. A refused record does not stop the ones after it, and a book that is
- * damaged or of another length refuses each of them (2, 7, 11) and not the replay. Words of
- * `answers` past those of the last record are left. An empty day needs no answer words.
+ * an answered question or 0. A refused record does not stop the ones after it. A book that is
+ * damaged or of another length is no reason to refuse the replay: each record answers as its call
+ * would, by 2, 7 or 11. Words of `answers` past those of the last record are left. An empty day
+ * needs no answer words.
  * Refused, in this order: 13 (any record of any day counts), 14, 15. Then no record is run.
  */
 uint32_t litres_replay(uint32_t *book, size_t len, const uint32_t *trace, size_t trace_len,

@@ -15,7 +15,7 @@ use crate::random::Random;
 use crate::shapes::Makes;
 use crate::view::Words;
 
-/// Day 0 is empty; day 1 makes clock 3 and three deliveries of document 01's examples and asks for 2 ticks.
+/// An empty day, then one that makes document 01's P3 and asks P4's question.
 pub const EXAMPLE: [u32; 25] = [
     2, 5, 0, 5, 20, 1, 3, 0, 0, 2, 0, 0, 3, 2, 0, 3, 1, 2, 0, 1, 1, 3, 0, 2, 0,
 ];

@@ -120,7 +120,7 @@ pub fn replay(
     let (read, read_len) = (trace.as_ptr(), trace.len());
     let (written, written_len) = (answers.as_mut_ptr(), answers.len());
     // SAFETY: as for `make` for `book` and `answers`, and as for `find_day` for `trace`; no two of the
-    // three overlap, since two are exclusive.
+    // three overlap, since `book` and `answers` are exclusive.
     accepted(unsafe {
         archive::litres_replay(words, len, read, read_len, day, written, written_len)
     })

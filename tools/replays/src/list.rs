@@ -98,32 +98,37 @@ impl<'i, I: Implementation> List<'i, I> {
         calls.try_for_each(|(call, reply)| self.note(call, reply, summary))
     }
 
-    /// The ledger answers the same call under the same number, and a sum that admits the book's.
     fn note(
         &mut self,
         call: Call,
         found: Reply,
         summary: &mut Summary,
     ) -> Result<(), Box<Difference>> {
-        let length = self.desk.book().len();
-        let expected = self.ledger.perform(call, length);
-        let agree = match (expected, found) {
-            (Ok(Answer::Sum(exact)), Ok(Answer::Sum(sum))) => {
-                let kind = if exact == sum {
-                    "an exact sum"
-                } else {
-                    "another sum"
-                };
-                summary.add_to_list(kind);
-                self.ledger.admits(exact, sum)
-            }
-            (expected, found) => expected == found,
-        };
-        let difference = Difference::Ledger {
+        let expected = self.ledger.perform(call, self.desk.book().len());
+        if let (Ok(Answer::Sum(exact)), Ok(Answer::Sum(sum))) = (expected, found) {
+            let is_exact = exact == sum;
+            summary.add_to_list(if is_exact {
+                "an exact sum"
+            } else {
+                "another sum"
+            });
+        }
+        if agrees(&self.ledger, expected, found) {
+            return Ok(());
+        }
+        Err(Box::new(Difference::Ledger {
             call,
             expected,
             found,
-        };
-        agree.then_some(()).ok_or(Box::new(difference))
+        }))
+    }
+}
+
+/// Whether a book may answer this where its ledger answers that: under the same number, and with a sum
+/// within the bound.
+pub fn agrees(ledger: &Ledger, expected: Reply, found: Reply) -> bool {
+    match (expected, found) {
+        (Ok(Answer::Sum(exact)), Ok(Answer::Sum(sum))) => ledger.admits(exact, sum),
+        (expected, found) => expected == found,
     }
 }

@@ -3,9 +3,12 @@
 use books::pair::WordDifference;
 use options::{Trials, Words};
 use reference::calls::{Answer, Call};
+use reference::ledger::Ledger;
+use reference::shape::Shape;
 use replays::command::read;
 use replays::difference::{Difference, Of, What};
 use replays::implementation::Archive;
+use replays::list::agrees;
 use replays::run::{run, Failure};
 
 #[test]
@@ -20,8 +23,8 @@ fn options() {
 
 #[test]
 fn the_archive_is_equal() {
-    let all = run(&Archive, 3, 0..8_000).unwrap_or_else(|failure| panic!("{failure}"));
-    assert_eq!(all.traces(), 8_000);
+    let all = run(&Archive, 3, 0..5_000).unwrap_or_else(|failure| panic!("{failure}"));
+    assert_eq!(all.traces(), 5_000);
     assert_eq!(all.faults(), Vec::<String>::new(), "{all}");
 }
 
@@ -36,10 +39,36 @@ fn a_trace_depends_on_seed_and_number_alone() {
 
 #[test]
 fn every_kind_is_met_often() {
-    let summary = run(&Archive, 1, 0..24_000).expect("equal");
+    let summary = run(&Archive, 1, 0..12_000).expect("equal");
     for kind in draw::trace::met::all() {
         let count = summary.met().count(&kind);
-        assert!(count >= 10, "{kind}: {count}");
+        assert!(count >= 20, "{kind}: {count}");
+    }
+}
+
+/// A book that the ledger contradicts would also differ from the second program, so this is tried apart.
+#[test]
+fn what_the_ledger_agrees_to() {
+    let ledger = Ledger::new(Shape::new(2, 6, 9, 1).unwrap());
+    let (done, sum) = (Ok(Answer::Done), |sum| Ok(Answer::Sum(sum)));
+    // The bound is 6 / 3 of the exact sum.
+    let same = [
+        (done, done),
+        (Err(8), Err(8)),
+        (sum(10), sum(30)),
+        (sum(10), sum(0)),
+    ];
+    for (expected, found) in same {
+        assert!(agrees(&ledger, expected, found), "{found:?}");
+    }
+    let other = [
+        (done, Err(8)),
+        (Err(8), done),
+        (Err(8), Err(9)),
+        (sum(10), sum(31)),
+    ];
+    for (expected, found) in other.into_iter().chain([(sum(0), sum(1)), (sum(0), done)]) {
+        assert!(!agrees(&ledger, expected, found), "{found:?}");
     }
 }
 

@@ -60,7 +60,7 @@ fn a_word_changed() {
     for word in 0..EXAMPLE.len() {
         let mut trace = EXAMPLE;
         trace[word] = trace[word].wrapping_sub(1);
-        // A day of 19 words, a record of kind 2 after one of kind 3, and the like.
+        // The question becomes a delivery, which has no word that must be 0.
         let accepted = numbers.contains(&word) || word == 21;
         assert_eq!(find_day(&trace, 1).is_ok(), accepted, "{word}");
         assert_eq!(find_day(&trace, 0).is_ok(), accepted, "{word}");

@@ -115,16 +115,18 @@ fn a_short_or_damaged_book_refuses_each_record() {
     head[7] = 1;
     let mut block = made();
     block[8] = 1;
-    let books = [(vec![], 2), (made()[..7].to_vec(), 2), (head, 7)];
-    let books = books.into_iter().chain([(made()[..89].to_vec(), 2)]);
-    for (book, number) in books.chain([(block, 11)]) {
+    let books = [
+        (vec![], [2; 5]),
+        (made()[..7].to_vec(), [2; 5]),
+        (made()[..89].to_vec(), [2; 5]),
+        (head, [7; 5]),
+        // The clock stays at 0, and a stamp ahead of it is refused before the block is looked at.
+        (block, [11, 11, 8, 8, 11]),
+    ];
+    for (book, numbers) in books {
         let (mut words, mut answers) = (book.clone(), [7; 10]);
         assert_eq!(replay(&mut words, &EXAMPLE, 1, &mut answers), Ok(()));
-        // In the damaged block's book the clock stays at 0, where stamp 3 is ahead.
-        let third = if number == 11 { 8 } else { number };
-        let fourth = if number == 11 { 8 } else { number };
-        let expected = [number, 0, number, 0, third, 0, fourth, 0, number, 0];
-        assert_eq!(answers, expected);
+        assert_eq!(answers, numbers.map(|number| [number, 0]).concat()[..]);
         assert_eq!(words, book);
     }
 }

@@ -101,22 +101,15 @@ impl Desk {
         }
         let calls = replay::calls(trace, day, room);
         let mut apart = before.clone();
-        let Lent { book, answers, .. } = self.lent(&mut apart, asked);
-        let places = answers.chunks_mut(ANSWER_WORDS);
-        for (call, place) in calls.iter().flatten().zip(places) {
-            place.copy_from_slice(&answer_words(implementation.perform(book, *call)));
-        }
+        let lent = self.lent(&mut apart, asked);
+        one_by_one(implementation, lent, calls.as_deref().unwrap_or(&[]));
         if let Some((of, word)) = self.first_word(&before, &theirs, &apart) {
             return Err(asked.difference(What::Apart(of, word)));
         }
         self.words = ours.book;
-        Ok(calls.map(|calls| {
-            let answers = ours.answers[MARGIN..].chunks(ANSWER_WORDS);
-            let pairs = calls.into_iter().zip(answers);
-            pairs
-                .map(|(call, words)| (call, reply(call, words)))
-                .collect()
-        }))
+        let answers = ours.answers[MARGIN..].chunks(ANSWER_WORDS);
+        let answered = |(call, words)| (call, reply(call, words));
+        Ok(calls.map(|calls| calls.into_iter().zip(answers).map(answered).collect()))
     }
 
     /// Words for the answers and around them, none of which an answer is likely to be.
@@ -175,6 +168,14 @@ fn place(trace: &[u32], part: &[u32]) -> Option<Range<usize>> {
     let start = start.checked_sub(first)? / size_of::<u32>();
     let end = start + part.len();
     (end <= trace.len()).then_some(start..end)
+}
+
+/// The implementation's own calls, with their answers written as a replay writes them.
+fn one_by_one(implementation: &impl Implementation, lent: Lent, calls: &[Call]) {
+    let places = lent.answers.chunks_mut(ANSWER_WORDS);
+    for (call, place) in calls.iter().zip(places) {
+        place.copy_from_slice(&answer_words(implementation.perform(lent.book, *call)));
+    }
 }
 
 /// What the words of an answer say of a call.

@@ -26,17 +26,31 @@
  * A block of words for each grade follows. There is no pointer in the book, so a copy of its words
  * is a book as well: a program may store them, and load them on a processor of the same byte order.
  *
- * In every call `book` points to `len` words. The caller must meet these conditions:
- *   - `book` is aligned for uint32_t and is not null, even where len is 0;
- *   - all len words may be read and, except in litres_query, written;
- *   - no other thread writes any of them during the call, nor reads them unless both calls are
- *     litres_query.
- * There are no other conditions on it: every length, all words and all numbers get an answer.
+ * A trace is an array of 32-bit words with recorded days, numbered from 0. It starts with
+ *   word 0                 the count of days, 0 to LITRES_MAX_DAYS
+ *   words 1 + 2d, 2 + 2d   offset and length of day d, both in words; offsets count from word 0
+ * and then has the days, one after another. The first day starts right after the pairs, each other
+ * where the one before ends, and no word follows the last. A day may be empty. It is whole records
+ * of LITRES_RECORD_WORDS words each:
+ *   LITRES_KIND_CLOCK,    clock, 0,      0
+ *   LITRES_KIND_DELIVERY, grade, stamp,  volume
+ *   LITRES_KIND_QUERY,    grade, window, 0
+ * Another kind, or another word than 0 where a 0 stands here, is no trace. The numbers of a record
+ * may be any: a wrong one is refused when the record is run. There is no pointer in a trace.
+ *
+ * A call gets its words as a pointer and a count: `book` points to `len` words, `trace` to
+ * `trace_len`, `answers` to `answers_len`. The caller must meet these conditions for each of them:
+ *   - the pointer is aligned for uint32_t and is not null, even where the count is 0;
+ *   - all words may be read and, where the pointer is not to const, written;
+ *   - no other thread writes any of them during the call, nor reads any that the call may write;
+ *   - words that a call may write, and the variables that it writes, overlap nothing else that it
+ *     is given.
+ * There are no other conditions on them: every length, all words and all numbers get an answer.
  *
  * Every call except litres_words returns 0 if it is accepted, else the number of a refusal. A
- * refused call changes no word. If several refusals apply, the call returns the first one in the
- * order that stands with it. LITRES_REFUSALS lists the refusals, and litres_text puts a number into
- * words.
+ * refused call changes no word of a book or of answers. If several refusals apply, the call returns
+ * the first one in the order that stands with it. LITRES_REFUSALS lists the refusals, and
+ * litres_text puts a number into words.
  */
 #ifndef LITRES_H
 #define LITRES_H
@@ -47,12 +61,20 @@
 /*
  * The version of this header and of the archive that goes with it. As long as MAJOR is 0, MINOR
  * rises with each change that a caller has to follow, such as another layout of the book or other
- * stamps in a window.
+ * stamps in a window, and PATCH with one that leaves what there was, such as a new call.
  */
 #define LITRES_VERSION_MAJOR 0
 #define LITRES_VERSION_MINOR 2
-#define LITRES_VERSION_PATCH 0
-#define LITRES_VERSION "0.2.0"
+#define LITRES_VERSION_PATCH 1
+#define LITRES_VERSION "0.2.1"
+
+/* Of traces: most days, words of a record, words of its answer, and the kinds of records. */
+#define LITRES_MAX_DAYS 64
+#define LITRES_RECORD_WORDS 4
+#define LITRES_ANSWER_WORDS 2
+#define LITRES_KIND_CLOCK 1
+#define LITRES_KIND_DELIVERY 2
+#define LITRES_KIND_QUERY 3
 
 /* Each refusal as X(number, name, text), for a program that makes a table of its own from them. */
 #define LITRES_REFUSALS(X)                                                                        \
@@ -67,7 +89,10 @@
     X(9, LITRES_LATE, "late: no window reaches back to the stamp any more")                       \
     X(10, LITRES_CLOCK_BACK, "the new clock is behind the clock")                                 \
     X(11, LITRES_BLOCK, "a grade's words are damaged")                                            \
-    X(12, LITRES_FULL, "the interval has no room for the volume")
+    X(12, LITRES_FULL, "the interval has no room for the volume")                                 \
+    X(13, LITRES_TRACE, "the trace breaks its layout")                                            \
+    X(14, LITRES_DAY, "the trace has no such day")                                                \
+    X(15, LITRES_ROOM, "the answers need more words")
 
 #define LITRES_ENUMERATOR(number, name, text) name = number,
 enum { LITRES_ACCEPTED = 0, LITRES_REFUSALS(LITRES_ENUMERATOR) };
@@ -116,6 +141,27 @@ uint32_t litres_delivery(uint32_t *book, size_t len, uint32_t grade, uint32_t st
  */
 uint32_t litres_query(const uint32_t *book, size_t len, uint32_t grade, uint32_t window,
                       uint64_t *sum);
+
+/*
+ * Finds a day: *start is its first word in the trace and *length how many words it has, so that it
+ * is the part trace + *start of the caller's own words. A refused call writes 0 to both. `start` and
+ * `length` must point to two size_t that may be written.
+ * Refused, in this order: 13 (any record of any day counts), 14.
+ */
+uint32_t litres_day(const uint32_t *trace, size_t trace_len, uint32_t day, size_t *start,
+                    size_t *length);
+
+/*
+ * Runs the records of a day one after another, each exactly as its own call on the book, and writes
+ * LITRES_ANSWER_WORDS words for each to `answers`: 0 or the number of its refusal, then the sum of
+ * an answered question or 0. A refused record does not stop the ones after it. A book that is
+ * damaged or of another length is no reason to refuse the replay: each record answers as its call
+ * would, by 2, 7 or 11. Words of `answers` past those of the last record are left. An empty day
+ * needs no answer words.
+ * Refused, in this order: 13 (any record of any day counts), 14, 15. Then no record is run.
+ */
+uint32_t litres_replay(uint32_t *book, size_t len, const uint32_t *trace, size_t trace_len,
+                       uint32_t day, uint32_t *answers, size_t answers_len);
 
 #ifdef __cplusplus
 }

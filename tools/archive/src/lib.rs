@@ -1,4 +1,5 @@
-//! The static library under the second program's types: one function over all calls.
+//! The static library under the second program's types: one function over all calls, and the two of
+//! traces.
 
 #![forbid(unsafe_code)]
 #![warn(missing_docs)]
@@ -18,9 +19,23 @@ pub fn perform(book: &mut [u32], call: Call) -> Reply {
         } => litres::delivery(book, grade, stamp, volume).map(done),
         Call::Query { grade, window } => litres::query(book, grade, window).map(Answer::Sum),
     }
-    .map_err(|Refused(number)| number)
+    .map_err(number)
+}
+
+/// Finds a day through the Rust wrapper.
+pub fn find_day(trace: &[u32], day: u32) -> Result<&[u32], u32> {
+    litres::find_day(trace, day).map_err(number)
+}
+
+/// Replays a day through the Rust wrapper.
+pub fn replay(book: &mut [u32], trace: &[u32], day: u32, answers: &mut [u32]) -> Result<(), u32> {
+    litres::replay(book, trace, day, answers).map_err(number)
 }
 
 fn done((): ()) -> Answer {
     Answer::Done
+}
+
+fn number(Refused(number): Refused) -> u32 {
+    number
 }

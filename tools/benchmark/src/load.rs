@@ -8,7 +8,7 @@ use rivals::{Calls, Fast};
 
 /// Deliveries of a grade in one interval, where it keeps as many decilitres: about one a minute on
 /// the site shape.
-const DELIVERIES: u64 = 20_000;
+pub const DELIVERIES: u64 = 20_000;
 /// One in so many comes late.
 const LATE: u64 = 10;
 /// The site's interval, 2^20 seconds; the delays below shrink with the interval.
@@ -17,7 +17,7 @@ const DELAY: u64 = 20;
 const LATE_DELAY: u64 = 6 * 60 * 60;
 
 /// The clock is set once in so many arrivals.
-const ARRIVALS_PER_CLOCK: u64 = 16;
+pub const ARRIVALS_PER_CLOCK: u64 = 16;
 const ACCEPTED: &str = "the book takes the load";
 
 /// How deliveries of a shape come.

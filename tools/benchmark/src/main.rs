@@ -1,10 +1,12 @@
 //! Measures the calls of the static library against two hand-written Rust versions and against a
-//! bare read of the words, all in one run on the same grown books, and prints Markdown tables.
+//! bare read of the words, all in one run on the same grown books, and a replayed day against the same
+//! calls one by one. Prints Markdown tables.
 
 #![forbid(unsafe_code)]
 
 mod candidate;
 mod command;
+mod day;
 mod load;
 mod measure;
 mod report;
@@ -19,12 +21,13 @@ fn main() -> ExitCode {
 }
 
 fn measure_all(options: Options) -> ExitCode {
-    let first = report::run(options.rounds);
-    print!("{}", report::tables(&first));
-    println!("{}", report::bars(&first));
+    let (first, replayed) = (report::run(options.rounds), day::run(options.rounds));
+    print!("{}{}", report::tables(&first), day::table(&replayed));
+    println!("{}{}", report::bars(&first), day::bar(&replayed));
     if options.twice {
-        let second = report::run(options.rounds);
+        let (second, again) = (report::run(options.rounds), day::run(options.rounds));
         println!("{}", report::moved(&first, &second));
+        println!("{}", day::moved(&replayed, &again));
     }
     ExitCode::SUCCESS
 }

@@ -17,16 +17,16 @@ pub const TIMED: usize = CANDIDATES.len() + READS.len();
 /// time after which another process may get the processor.
 const WORDS_PER_BATCH: usize = 1 << 18;
 
-/// Microseconds of one call, round by round: for the static library, (a), (b), (c) and (c4).
-pub struct Times {
-    rounds: Vec<[f64; TIMED]>,
+/// Microseconds of one call, round by round: mostly for the static library, (a), (b), (c) and (c4).
+pub struct Times<const N: usize = TIMED> {
+    rounds: Vec<[f64; N]>,
 }
 
-impl Times {
+impl<const N: usize> Times<N> {
     /// Of these rounds only the fastest tenth counts: in the others something else may have had the
     /// processor or its other half, for which a check and a bare read pay in different measure.
-    fn new(mut rounds: Vec<[f64; TIMED]>) -> Times {
-        let whole = |round: &[f64; TIMED]| round.iter().sum::<f64>();
+    pub fn new(mut rounds: Vec<[f64; N]>) -> Times<N> {
+        let whole = |round: &[f64; N]| round.iter().sum::<f64>();
         rounds.sort_by(|one, other| whole(one).total_cmp(&whole(other)));
         rounds.truncate(rounds.len().div_ceil(10));
         Times { rounds }

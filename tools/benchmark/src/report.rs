@@ -91,7 +91,8 @@ pub fn run(rounds: usize) -> Vec<Table> {
     measured(asked, rounds)
 }
 
-fn grown([k, n, m, g]: [u32; 4]) -> (Shape, Vec<u32>) {
+/// A shape and a book of it after the load.
+pub fn grown([k, n, m, g]: [u32; 4]) -> (Shape, Vec<u32>) {
     let shape = Shape::new(k, n, m, g).expect("a shape within its limits");
     eprintln!("growing ({k}, {n}, {m}, {g})");
     (shape, Load::new(shape, 1).grow())
@@ -194,17 +195,17 @@ pub fn bars(tables: &[Table]) -> String {
                 FAST if row.kind.reads_one_block() => CLOSE,
                 _ => continue,
             };
-            let measured = row.times.ratio(timed, other);
-            let verdict = verdict(measured <= most);
-            let name = &row.name;
-            writeln!(
-                text,
-                "| {name}: {ratio} | {most} | {measured:.2} | {verdict} |"
-            )
-            .unwrap();
+            let name = format!("{}: {ratio}", row.name);
+            text.push_str(&bar(&name, most, row.times.ratio(timed, other)));
         }
     }
     text
+}
+
+/// A target as a row of Markdown.
+pub fn bar(name: &str, most: f64, measured: f64) -> String {
+    let verdict = verdict(measured <= most);
+    format!("| {name} | {most} | {measured:.2} | {verdict} |\n")
 }
 
 fn verdict(met: bool) -> &'static str {

@@ -2,22 +2,16 @@
 
 use std::process::ExitCode;
 
-use books::command::{Options, USAGE};
+use books::command::{read, USAGE};
 use books::run::run;
-use draw::tally::verdict;
+use books::summary::Summary;
+use draw::tally::report;
+use options::Trials;
 
 fn main() -> ExitCode {
-    options::main(USAGE, Options::read, compare)
+    options::main(USAGE, read, compare)
 }
 
-fn compare(options: Options) -> ExitCode {
-    let summary = match run(archive::perform, options.seed, options.numbers()) {
-        Ok(summary) => summary,
-        Err(failure) => {
-            eprintln!("{failure}");
-            return ExitCode::FAILURE;
-        }
-    };
-    println!("seed {}: {summary}", options.seed);
-    verdict(&summary.faults())
+fn compare(Trials { seed, numbers }: Trials) -> ExitCode {
+    report(seed, run(archive::perform, seed, numbers), Summary::faults)
 }

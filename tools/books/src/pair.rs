@@ -1,7 +1,6 @@
 //! The same words twice, once for each side, with words around them that no call was lent.
 
 use std::fmt::{self, Display, Formatter};
-use std::ops::Range;
 
 use reference::calls::{self, Call, Reply};
 use reference::protocol::answer;
@@ -42,6 +41,38 @@ pub struct WordDifference {
     pub found: u32,
 }
 
+impl WordDifference {
+    /// The first word that differs, if any, of words that were equal before; places count from `start`.
+    pub fn first(
+        before: &[u32],
+        expected: &[u32],
+        found: &[u32],
+        start: usize,
+    ) -> Option<WordDifference> {
+        if expected == found {
+            return None;
+        }
+        let mut pairs = expected.iter().zip(found);
+        let place = pairs.position(|(expected, found)| expected != found)?;
+        Some(WordDifference {
+            place: place as i64 - start as i64,
+            before: before[place],
+            expected: expected[place],
+            found: found[place],
+        })
+    }
+}
+
+impl Display for WordDifference {
+    fn fmt(&self, f: &mut Formatter<'_>) -> fmt::Result {
+        write!(
+            f,
+            "word {} is {}, expected {}, before {}",
+            self.place, self.found, self.expected, self.before
+        )
+    }
+}
+
 impl Pair {
     /// These words for both sides, of which calls are lent some from `start` on.
     pub fn new(words: Vec<u32>, start: usize) -> Pair {
@@ -68,11 +99,11 @@ impl Pair {
         let range = self.start..self.start + lent;
         self.before.copy_from_slice(&self.ours);
         let expected = calls::perform(&mut self.ours[range.clone()], call);
-        let found = implementation(&mut self.theirs[range.clone()], call);
+        let found = implementation(&mut self.theirs[range], call);
         if expected.is_err() || matches!(call, Call::Query { .. }) {
             assert!(self.ours == self.before, "the second program: {call:?}");
         }
-        let word = self.first_difference(&range);
+        let word = WordDifference::first(&self.before, &self.ours, &self.theirs, self.start);
         if expected == found && word.is_none() {
             return Ok(expected);
         }
@@ -84,20 +115,6 @@ impl Pair {
             word,
         }))
     }
-
-    fn first_difference(&self, range: &Range<usize>) -> Option<WordDifference> {
-        if self.ours == self.theirs {
-            return None;
-        }
-        let mut pairs = self.ours.iter().zip(&self.theirs);
-        let place = pairs.position(|(ours, theirs)| ours != theirs)?;
-        Some(WordDifference {
-            place: place as i64 - range.start as i64,
-            before: self.before[place],
-            expected: self.ours[place],
-            found: self.theirs[place],
-        })
-    }
 }
 
 impl Display for Difference {
@@ -107,11 +124,7 @@ impl Display for Difference {
         write!(f, "answers {found}, expected {expected}")?;
         match &self.word {
             None => write!(f, "\nwords equal"),
-            Some(word) => write!(
-                f,
-                "\nword {} is {}, expected {}, before {}",
-                word.place, word.found, word.expected, word.before
-            ),
+            Some(word) => write!(f, "\n{word}"),
         }
     }
 }

@@ -39,11 +39,7 @@ impl Display for Failure {
         let (seed, book, call) = (self.seed, self.book, self.call);
         let shape = self.shape;
         let numbers = shape.numbers();
-        let kind = match self.kind {
-            Kind::Grown => "grown",
-            Kind::Built => "built",
-            Kind::Damaged(name) => name,
-        };
+        let kind = self.kind;
         writeln!(
             f,
             "seed {seed}, book {book} ({kind}), shape {numbers:?}, call {call}"
@@ -71,8 +67,7 @@ fn trial(
     index: u64,
     summary: &mut Summary,
 ) -> Result<(), Box<Failure>> {
-    let mut seeds = Random::new(seed);
-    let mut random = Random::new(seeds.bits() ^ Random::new(index).bits());
+    let mut random = Random::of_trial(seed, index);
     let Book { kind, shape, words } = Book::draw(&mut random, index);
     summary.add_book(kind);
     let mut pair = surrounded(&mut random, &words);

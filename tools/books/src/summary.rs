@@ -32,7 +32,7 @@ impl Summary {
             books: Tally::new(["grown", "built", "damaged"], BOOKS_FOR_ALL),
             // Half of the books are damaged, and each gets several calls.
             damage: Tally::new(KINDS.map(|(name, _)| name), BOOKS_FOR_ALL / 2),
-            answers: Tally::of_answers(refusal::ALL, &[], 4 * BOOKS_FOR_ALL),
+            answers: Tally::of_answers(refusal::CALLS, &[], 4 * BOOKS_FOR_ALL),
             edges: Tally::new(edges::all(), EDGES_FOR_ALL),
         }
     }

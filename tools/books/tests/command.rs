@@ -1,24 +1,19 @@
 //! The command line, a run through the archive, and what a failed run reports.
 
-use books::command::Options;
+use books::command::read;
 use books::pair::{Difference, WordDifference};
 use books::run::run;
-use options::Words;
+use options::{Trials, Words};
 use reference::calls::Call;
-
-fn parse(arguments: &[&str]) -> Result<Options, String> {
-    Options::read(Words::new(arguments))
-}
 
 #[test]
 fn options() {
-    assert_eq!(parse(&[]).unwrap().numbers(), 0..24_000);
-    let options = parse(&["--seed", "7", "--books", "12"]).unwrap();
-    assert_eq!((options.seed, options.numbers()), (7, 0..12));
-    assert_eq!(parse(&["--book", "5"]).unwrap().numbers(), 5..6);
-    for wrong in [&["--seed"][..], &["--books", "many"], &["--lines", "3"]] {
-        assert!(parse(wrong).is_err(), "{wrong:?}");
-    }
+    let trials = |seed, numbers| Ok(Trials { seed, numbers });
+    assert_eq!(read(Words::new([""; 0])), trials(1, 0..24_000));
+    let words = ["--seed", "7", "--books", "12"];
+    assert_eq!(read(Words::new(words)), trials(7, 0..12));
+    assert_eq!(read(Words::new(["--book", "5"])), trials(1, 5..6));
+    assert!(read(Words::new(["--lines", "3"])).is_err());
 }
 
 #[test]

@@ -23,7 +23,7 @@ impl Summary {
     /// Nothing seen yet. A script can draw every kind of answer but refusal 11: only words that no
     /// call wrote are an unsound block.
     pub fn new() -> Summary {
-        let refusals = refusal::ALL.filter(|number| *number != refusal::BLOCK);
+        let refusals = refusal::CALLS.filter(|number| *number != refusal::BLOCK);
         Summary {
             scripts: 0,
             tally: Tally::of_answers(refusals, &[UNREAD], LINES_FOR_ALL_KINDS),

@@ -1,5 +1,7 @@
 //! A book to begin with: its kind, its words and how they were damaged.
 
+use std::fmt::{self, Display, Formatter};
+
 use reference::calls::{perform, Call};
 use reference::histogram::Histogram;
 use reference::layout::HEAD_WORDS;
@@ -22,6 +24,16 @@ pub enum Kind {
     Built,
     /// One of these, damaged.
     Damaged(&'static str),
+}
+
+impl Display for Kind {
+    fn fmt(&self, f: &mut Formatter<'_>) -> fmt::Result {
+        f.write_str(match self {
+            Kind::Grown => "grown",
+            Kind::Built => "built",
+            Kind::Damaged(name) => name,
+        })
+    }
 }
 
 /// A book before the compared calls.
@@ -123,9 +135,15 @@ pub fn lent(random: &mut Random, call: Call, exact: usize, more: usize) -> usize
     } else {
         14
     };
-    if !random.one_in(often) {
-        return exact;
+    if random.one_in(often) {
+        other_length(random, exact, more)
+    } else {
+        exact
     }
+}
+
+/// Fewer words than the book's, more, or none; mostly not as many.
+pub fn other_length(random: &mut Random, exact: usize, more: usize) -> usize {
     match random.below(8) {
         0 => 0,
         1 => random.below(HEAD_WORDS as u64 + 1) as usize,

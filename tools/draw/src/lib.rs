@@ -1,4 +1,4 @@
-//! Random shapes, calls and books for everything that is compared with the second program. All
+//! Random shapes, calls, books and traces for everything that is compared with the second program. All
 //! draws come from a seed, so that a run can be repeated.
 
 #![forbid(unsafe_code)]
@@ -14,5 +14,6 @@ pub mod random;
 pub mod shapes;
 pub mod sound;
 pub mod tally;
+pub mod trace;
 pub mod view;
 pub mod wrapped;

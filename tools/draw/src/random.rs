@@ -11,6 +11,11 @@ impl Random {
         Random { state: seed }
     }
 
+    /// The generator of a numbered trial, which depends on the run's seed and the number alone.
+    pub fn of_trial(seed: u64, number: u64) -> Random {
+        Random::new(Random::new(seed).bits() ^ Random::new(number).bits())
+    }
+
     /// Any 64 bits.
     pub fn bits(&mut self) -> u64 {
         self.state = self.state.wrapping_add(0x9e37_79b9_7f4a_7c15);

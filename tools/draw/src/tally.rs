@@ -82,6 +82,24 @@ impl Display for Tally {
     }
 }
 
+/// Tells what a run saw and what is wrong with that, or where it failed; its exit status.
+pub fn report<S: Display>(
+    seed: u64,
+    result: Result<S, impl Display>,
+    faults: impl FnOnce(&S) -> Vec<String>,
+) -> ExitCode {
+    match result {
+        Ok(summary) => {
+            println!("seed {seed}: {summary}");
+            verdict(&faults(&summary))
+        }
+        Err(failure) => {
+            eprintln!("{failure}");
+            ExitCode::FAILURE
+        }
+    }
+}
+
 /// Tells the faults of a run; its exit status.
 pub fn verdict(faults: &[String]) -> ExitCode {
     for fault in faults {

@@ -12,4 +12,20 @@ extern "C" {
         window: u32,
         sum: *mut u64,
     ) -> u32;
+    pub fn litres_day(
+        trace: *const u32,
+        trace_len: usize,
+        day: u32,
+        start: *mut usize,
+        length: *mut usize,
+    ) -> u32;
+    pub fn litres_replay(
+        book: *mut u32,
+        len: usize,
+        trace: *const u32,
+        trace_len: usize,
+        day: u32,
+        answers: *mut u32,
+        answers_len: usize,
+    ) -> u32;
 }

@@ -15,6 +15,21 @@
 //! assert_eq!(litres::query(&book, 0, 2)?, 0);
 //! # Ok::<(), litres::Refused>(())
 //! ```
+//!
+//! A trace holds recorded days, whose records are calls. Each is found and replayed on a book:
+//!
+//! ```
+//! let mut book = vec![0; 90];
+//! litres::make(&mut book, 2, 2, 4, 1)?;
+//! // Two days: an empty one, and one of a clock, a delivery and a question.
+//! let trace = [2, 5, 0, 5, 12, 1, 3, 0, 0, 2, 0, 1, 5, 3, 0, 3, 0];
+//! assert!(litres::find_day(&trace, 0)?.is_empty());
+//! let records = litres::find_day(&trace, 1)?.len() / litres::RECORD_WORDS;
+//! let mut answers = vec![0; records * litres::ANSWER_WORDS];
+//! litres::replay(&mut book, &trace, 1, &mut answers)?;
+//! assert_eq!(answers, [0, 0, 0, 0, 0, 5]); // all accepted, and the sum is 5
+//! # Ok::<(), litres::Refused>(())
+//! ```
 
 #![warn(missing_docs)]
 
@@ -25,6 +40,19 @@ pub use refused::Refused;
 
 /// The version of the library, `LITRES_VERSION` in `include/litres.h`.
 pub const VERSION: &str = env!("CARGO_PKG_VERSION");
+
+/// Most days of a trace.
+pub const MAX_DAYS: u32 = 64;
+/// Words of a record: its kind, the numbers of its call, zeros.
+pub const RECORD_WORDS: usize = 4;
+/// Words of a record's answer: the refusal's number or 0, then the sum or 0.
+pub const ANSWER_WORDS: usize = 2;
+/// The kind of a record that sets the clock.
+pub const KIND_CLOCK: u32 = 1;
+/// The kind of a record of a delivery.
+pub const KIND_DELIVERY: u32 = 2;
+/// The kind of a record that asks for a sum.
+pub const KIND_QUERY: u32 = 3;
 
 /// How many words a book of this shape needs; nothing where the shape is outside its limits.
 pub fn words(k: u32, n: u32, m: u32, g: u32) -> Option<usize> {
@@ -68,6 +96,36 @@ pub fn query(book: &[u32], grade: u32, window: u32) -> Result<u64, Refused> {
     accepted(number).map(|()| sum)
 }
 
+/// The words of a day, as that part of the trace; `include/litres.h` has the trace's layout. Days are
+/// numbered from 0.
+pub fn find_day(trace: &[u32], day: u32) -> Result<&[u32], Refused> {
+    let (mut start, mut length) = (0, 0);
+    let (words, len) = (trace.as_ptr(), trace.len());
+    // SAFETY: `words` and `len` are of one slice, shared and so not written by anybody during the
+    // call; the function only reads it. `start` and `length` are two variables apart from it.
+    let number = unsafe { archive::litres_day(words, len, day, &mut start, &mut length) };
+    accepted(number).map(|()| &trace[start..start + length])
+}
+
+/// Performs every record of a day on the book, each as a call of its own, and writes
+/// [`ANSWER_WORDS`] words for each. A refused record does not stop the ones after it. Words past the last
+/// answer stay. Where the replay as a whole is refused, no record is run.
+pub fn replay(
+    book: &mut [u32],
+    trace: &[u32],
+    day: u32,
+    answers: &mut [u32],
+) -> Result<(), Refused> {
+    let (words, len) = (book.as_mut_ptr(), book.len());
+    let (read, read_len) = (trace.as_ptr(), trace.len());
+    let (written, written_len) = (answers.as_mut_ptr(), answers.len());
+    // SAFETY: as for `make` for `book` and `answers`, and as for `find_day` for `trace`; no two of the
+    // three overlap, since `book` and `answers` are exclusive.
+    accepted(unsafe {
+        archive::litres_replay(words, len, read, read_len, day, written, written_len)
+    })
+}
+
 fn accepted(number: u32) -> Result<(), Refused> {
     match number {
         0 => Ok(()),
@@ -88,6 +146,27 @@ mod tests {
             // SAFETY: `len` is at most the array's length, and `sum` is apart from it.
             let number = unsafe { archive::litres_query(book.as_ptr(), len, 0, 0, &mut sum) };
             assert_eq!((number, sum), (if len < 8 { 2 } else { 7 }, 123));
+        }
+    }
+
+    /// The place of a day in a trace of so many of these words, as C gets it.
+    fn place(trace: &[u32], day: u32) -> (u32, usize, usize) {
+        let (mut start, mut length) = (123, 456);
+        let (words, len) = (trace.as_ptr(), trace.len());
+        // SAFETY: the pointer and the length are of one slice; the variables are apart from it.
+        let number = unsafe { archive::litres_day(words, len, day, &mut start, &mut length) };
+        (number, start, length)
+    }
+
+    #[test]
+    fn a_day_has_its_place_and_a_refused_one_is_nowhere() {
+        let trace = [2, 5, 0, 5, 4, 1, 3, 0, 0];
+        assert_eq!(place(&trace, 0), (0, 5, 0));
+        assert_eq!(place(&trace, 1), (0, 5, 4));
+        assert_eq!(place(&trace, 2), (14, 0, 0));
+        assert_eq!(place(&trace, u32::MAX), (14, 0, 0));
+        for len in 0..trace.len() {
+            assert_eq!(place(&trace[..len], 1), (13, 0, 0), "{len}");
         }
     }
 }

@@ -3,7 +3,7 @@
 use std::error::Error;
 use std::fmt::{self, Display, Formatter};
 
-/// A call was refused under this number; no word of the book changed.
+/// A call was refused under this number; no word of the book changed, nor of a replay's answers.
 #[derive(Clone, Copy, Debug, PartialEq, Eq, Hash)]
 pub struct Refused(pub u32);
 
@@ -43,6 +43,9 @@ refusals! {
     10 CLOCK_BACK "the new clock is behind the clock";
     11 BLOCK "a grade's words are damaged";
     12 FULL "the interval has no room for the volume";
+    13 TRACE "the trace breaks its layout";
+    14 DAY "the trace has no such day";
+    15 ROOM "the answers need more words";
 }
 
 impl Display for Refused {

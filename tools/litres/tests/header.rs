@@ -1,6 +1,9 @@
-//! The wrapper beside `include/litres.h`: the refusals, their texts and the version are the same.
+//! The wrapper beside `include/litres.h`: the refusals, their texts, the constants of traces and the
+//! version are the same.
 
 use litres::{Refused, VERSION};
+use reference::replay::ANSWER_WORDS;
+use reference::trace;
 
 const HEADER: &str = include_str!("../../../include/litres.h");
 
@@ -70,6 +73,7 @@ fn a_refusal_displays_its_text() {
         assert_eq!(Refused(number).to_string(), text);
     }
     assert_eq!(Refused::FULL, Refused(12));
+    assert_eq!(Refused::ROOM, Refused(15));
 }
 
 #[test]
@@ -98,4 +102,21 @@ fn version() {
     let parts = ["MAJOR", "MINOR", "PATCH"];
     let parts = parts.map(|part| defined(&format!("LITRES_VERSION_{part}")));
     assert_eq!(parts.join("."), VERSION);
+}
+
+#[test]
+fn constants_of_traces() {
+    let [record, answer] = [litres::RECORD_WORDS, litres::ANSWER_WORDS].map(|words| words as u32);
+    for (name, ours, second) in [
+        ("MAX_DAYS", litres::MAX_DAYS, trace::DAYS_MAX),
+        ("RECORD_WORDS", record, trace::RECORD_WORDS as u32),
+        ("ANSWER_WORDS", answer, ANSWER_WORDS as u32),
+        ("KIND_CLOCK", litres::KIND_CLOCK, trace::CLOCK),
+        ("KIND_DELIVERY", litres::KIND_DELIVERY, trace::DELIVERY),
+        ("KIND_QUERY", litres::KIND_QUERY, trace::QUERY),
+    ] {
+        let header = defined(&format!("LITRES_{name}"));
+        assert_eq!(header, ours.to_string(), "{name}");
+        assert_eq!(second, ours, "{name}");
+    }
 }

@@ -6,6 +6,7 @@
 
 use std::env;
 use std::ffi::{OsStr, OsString};
+use std::ops::Range;
 use std::process::ExitCode;
 
 /// The exit status for a command line that does not read.
@@ -35,31 +36,75 @@ impl Words {
 
     /// Takes out a word like `--seed` and the number after it.
     pub fn number(&mut self, name: &str) -> Result<Option<u64>, String> {
-        let Some(place) = self.place(name) else {
+        let Some(value) = self.after(name) else {
             return Ok(None);
         };
-        self.left.remove(place);
-        let value = (place < self.left.len()).then(|| self.left.remove(place));
         let number = value.and_then(|value| value.to_str()?.parse().ok());
         number.map(Some).ok_or(format!("{name} needs a number"))
+    }
+
+    /// Takes out a word like `-o` and the file's name after it.
+    pub fn file(&mut self, name: &str) -> Result<Option<OsString>, String> {
+        match self.after(name) {
+            None => Ok(None),
+            Some(None) => Err(format!("{name} needs a file")),
+            Some(file) => Ok(file),
+        }
     }
 
     /// What is left, which must be one word for each of these names; the names only serve to say
     /// what is missing.
     pub fn operands<const N: usize>(self, names: [&str; N]) -> Result<[OsString; N], String> {
-        let is_option = |word: &&OsString| word.to_str().is_some_and(|word| word.starts_with("--"));
-        if let Some(unknown) = self.left.iter().find(is_option) {
-            return Err(format!("unknown or twice: {}", unknown.display()));
-        }
-        if let Some(missing) = names.get(self.left.len()) {
+        let left = self.rest()?;
+        if let Some(missing) = names.get(left.len()) {
             return Err(format!("{missing} is missing"));
         }
         let too_many = |words: Vec<OsString>| format!("one word too many: {}", words[N].display());
-        self.left.try_into().map_err(too_many)
+        left.try_into().map_err(too_many)
+    }
+
+    /// What is left, however many words that are; none of them may be an option.
+    pub fn rest(self) -> Result<Vec<OsString>, String> {
+        let is_option = |word: &&OsString| word.to_str().is_some_and(|word| word.starts_with('-'));
+        match self.left.iter().find(is_option) {
+            Some(unknown) => Err(format!("unknown or twice: {}", unknown.display())),
+            None => Ok(self.left),
+        }
+    }
+
+    /// Takes out a word, where it is there, and the one after it.
+    fn after(&mut self, name: &str) -> Option<Option<OsString>> {
+        let place = self.place(name)?;
+        self.left.remove(place);
+        Some((place < self.left.len()).then(|| self.left.remove(place)))
     }
 
     fn place(&self, name: &str) -> Option<usize> {
         self.left.iter().position(|word| word == OsStr::new(name))
+    }
+}
+
+/// Which of its numbered trials a comparison is to make. Each depends on the seed and its number alone.
+#[derive(Clone, Debug, PartialEq, Eq)]
+pub struct Trials {
+    /// The seed of all trials.
+    pub seed: u64,
+    /// Their numbers.
+    pub numbers: Range<u64>,
+}
+
+impl Trials {
+    /// Reads a whole command line of `--seed`, a word like `--books` for how many, and one like `--book`
+    /// for one alone.
+    pub fn read(mut words: Words, many: &str, one: &str, usual: u64) -> Result<Trials, String> {
+        let seed = words.number("--seed")?.unwrap_or(1);
+        let count = words.number(many)?.unwrap_or(usual);
+        let alone = words.number(one)?;
+        let [] = words.operands([])?;
+        Ok(Trials {
+            seed,
+            numbers: alone.map_or(0..count, |number| number..number.saturating_add(1)),
+        })
     }
 }
 

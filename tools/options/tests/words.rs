@@ -1,6 +1,6 @@
 //! What is read from a command line, and what is wrong with one.
 
-use options::Words;
+use options::{Trials, Words};
 
 fn words(text: &str) -> Words {
     Words::new(text.split_whitespace())
@@ -57,4 +57,29 @@ fn words_that_nobody_took_are_told() {
     let mut twice = words("--seed 1 a --seed 2");
     assert_eq!(twice.number("--seed"), Ok(Some(1)));
     assert_eq!(trouble(twice), "unknown or twice: --seed");
+}
+
+#[test]
+fn a_file_follows_its_option() {
+    let mut all = words("make -o out a b");
+    assert_eq!(all.file("-o"), Ok(Some("out".into())));
+    assert_eq!(all.file("-o"), Ok(None));
+    assert_eq!(all.rest(), Ok(["make", "a", "b"].map(Into::into).to_vec()));
+    let trouble = "-o needs a file".to_string();
+    assert_eq!(words("make a -o").file("-o"), Err(trouble));
+    let mut twice = words("-o one -o two a");
+    assert_eq!(twice.file("-o"), Ok(Some("one".into())));
+    assert_eq!(twice.rest().unwrap_err(), "unknown or twice: -o");
+}
+
+#[test]
+fn trials_are_all_or_one() {
+    let read = |text: &str| Trials::read(words(text), "--books", "--book", 24);
+    let trials = |seed, numbers| Ok(Trials { seed, numbers });
+    assert_eq!(read(""), trials(1, 0..24));
+    assert_eq!(read("--books 12 --seed 7"), trials(7, 0..12));
+    assert_eq!(read("--book 5"), trials(1, 5..6));
+    for wrong in ["--seed", "--books many", "--lines 3", "7"] {
+        assert!(read(wrong).is_err(), "{wrong}");
+    }
 }

@@ -119,6 +119,13 @@ impl Ledger {
         self.sum(|e| e.grade == grade && self.covers(window, e.stamp))
     }
 
+    /// Whether a book may answer this where the exact sum is that: the bound of document 01's method, which
+    /// says nothing where n is at most k + 1.
+    pub fn admits(&self, exact: u64, answer: u64) -> bool {
+        let (k, n) = (u64::from(self.shape.k()), u64::from(self.shape.n()));
+        n <= k + 1 || answer.abs_diff(exact) * (n - k - 1) <= 2 * (k + 1) * exact
+    }
+
     fn sum(&self, counted: impl Fn(&Entry) -> bool) -> u64 {
         let volume = |e: &Entry| if counted(e) { u64::from(e.volume) } else { 0 };
         self.entries.iter().map(volume).sum()

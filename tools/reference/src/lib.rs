@@ -1,5 +1,5 @@
 //! A second implementation of document 01, as plain as it can be. Windows and lateness are those of
-//! document 02, request One.
+//! document 02, request One; request Two adds traces and their replay.
 //!
 //! It shares nothing with the proved code but the documents. A call decodes the words into vectors
 //! of buckets, inserts decilitre by decilitre, and encodes the vectors again; clarity comes before
@@ -14,7 +14,9 @@ pub mod layout;
 pub mod ledger;
 pub mod protocol;
 pub mod refusal;
+pub mod replay;
 pub mod shape;
 pub mod soundness;
+pub mod trace;
 pub mod window;
 pub mod words;

@@ -1,4 +1,5 @@
-//! The refusal numbers (document 01, "Turned down by the input" and "Turned down by the state").
+//! The refusal numbers (document 01, "Turned down by the input" and "Turned down by the state"; for
+//! replays document 02, request Two).
 
 use std::ops::RangeInclusive;
 
@@ -26,9 +27,17 @@ pub const CLOCK_BACK: u32 = 10;
 pub const BLOCK: u32 = 11;
 /// The interval cannot keep this volume as well.
 pub const FULL: u32 = 12;
+/// The trace breaks its layout.
+pub const TRACE: u32 = 13;
+/// The trace has no such day.
+pub const DAY: u32 = 14;
+/// The answers need more words.
+pub const ROOM: u32 = 15;
 
-/// Every refusal.
-pub const ALL: RangeInclusive<u32> = SHAPE..=FULL;
+/// Every refusal of a call on a book.
+pub const CALLS: RangeInclusive<u32> = SHAPE..=FULL;
+/// Every refusal of a whole replay.
+pub const REPLAYS: RangeInclusive<u32> = TRACE..=ROOM;
 
 /// Refuses with `number` where `condition` holds.
 pub fn when(condition: bool, number: u32) -> Result<(), u32> {

@@ -1,0 +1,167 @@
+//! What a replay meets: in which way a trace is broken, where the day stands that is asked for, and how
+//! much room there is for the answers. A long run must show every kind.
+
+use reference::refusal;
+use reference::replay::{find_day, ANSWER_WORDS};
+use reference::trace::{days, pair, Fault, CLOCK, DAYS_MAX, RECORD_WORDS};
+
+/// Faults of a trace as a whole.
+const WHOLE: [&str; 5] = [
+    "no words",
+    "65 days",
+    "more than 65 days",
+    "pairs missing",
+    "a word that follows",
+];
+/// Faults of a day, and where that day stands.
+const OF_A_DAY: [&str; 7] = [
+    "an offset",
+    "a length",
+    "an end",
+    "a kind",
+    "rest word 2 of a clock",
+    "rest word 3 of a clock",
+    "rest word 3 of a question",
+];
+const PLACES: [&str; 3] = ["the day asked for", "an earlier day", "a later day"];
+/// A later refusal holds as well.
+const TWICE: [&str; 3] = [
+    "no trace, no such day",
+    "no trace, no room",
+    "no such day, no room",
+];
+const NO_DAY: [&str; 4] = [
+    "no day at all",
+    "day = count",
+    "day = count + 1",
+    "a day far beyond",
+];
+const DAYS: [&str; 4] = [
+    "the first day",
+    "a day between",
+    "the last day",
+    "a day after an empty one",
+];
+const ROOMS: [&str; 9] = [
+    "empty day, no room",
+    "empty day, room",
+    "no room",
+    "a word short",
+    "a word for each record",
+    "words short",
+    "as many words as needed",
+    "a word more",
+    "more words",
+];
+
+/// Every kind that there is.
+pub fn all() -> Vec<String> {
+    let placed = OF_A_DAY.iter().flat_map(|fault| {
+        let at = move |place: &&str| format!("{fault} in {place}");
+        PLACES.iter().map(at)
+    });
+    let lists: [&[&str]; 5] = [&WHOLE, &TWICE, &NO_DAY, &DAYS, &ROOMS];
+    let names = lists.concat().into_iter().map(str::to_string);
+    names.chain(placed).collect()
+}
+
+/// The kinds of a replay of this day with so many answer words.
+pub fn kinds(trace: &[u32], day: u32, room: usize) -> Vec<String> {
+    match find_day(trace, day) {
+        Ok(part) => found(trace, day, part.len() / RECORD_WORDS, room),
+        Err(refusal::DAY) => strings(&no_day(trace[0], day, room)),
+        Err(_) => broken(trace, day, room),
+    }
+}
+
+fn strings(names: &[&str]) -> Vec<String> {
+    names.iter().map(|name| name.to_string()).collect()
+}
+
+fn broken(trace: &[u32], day: u32, room: usize) -> Vec<String> {
+    let fault = days(trace).expect_err("no trace");
+    let mut kinds = vec![match fault.day() {
+        None => fault_name(trace, fault).to_string(),
+        Some(at) => {
+            let place = match at.cmp(&(day as usize)) {
+                std::cmp::Ordering::Equal => PLACES[0],
+                std::cmp::Ordering::Less => PLACES[1],
+                std::cmp::Ordering::Greater => PLACES[2],
+            };
+            format!("{} in {place}", fault_name(trace, fault))
+        }
+    }];
+    if trace.first().is_none_or(|count| day >= *count) {
+        kinds.push(TWICE[0].to_string());
+    }
+    if room == 0 {
+        kinds.push(TWICE[1].to_string());
+    }
+    kinds
+}
+
+fn fault_name(trace: &[u32], fault: Fault) -> &'static str {
+    match fault {
+        Fault::Empty => WHOLE[0],
+        Fault::Count(count) if count == DAYS_MAX + 1 => WHOLE[1],
+        Fault::Count(_) => WHOLE[2],
+        Fault::Pairs(_) => WHOLE[3],
+        Fault::Follows(_) => WHOLE[4],
+        Fault::Offset { .. } => OF_A_DAY[0],
+        Fault::Length { .. } => OF_A_DAY[1],
+        Fault::End { .. } => OF_A_DAY[2],
+        Fault::Kind { .. } => OF_A_DAY[3],
+        Fault::Rest { word, .. } => {
+            let first = pair(trace[0] as usize).start;
+            let place = (word - first) % RECORD_WORDS;
+            match (trace[word - place], place) {
+                (CLOCK, 2) => OF_A_DAY[4],
+                (CLOCK, _) => OF_A_DAY[5],
+                _ => OF_A_DAY[6],
+            }
+        }
+    }
+}
+
+fn no_day(count: u32, day: u32, room: usize) -> Vec<&'static str> {
+    let mut kinds = vec![match day - count {
+        _ if count == 0 => NO_DAY[0],
+        0 => NO_DAY[1],
+        1 => NO_DAY[2],
+        _ => NO_DAY[3],
+    }];
+    if room == 0 {
+        kinds.push(TWICE[2]);
+    }
+    kinds
+}
+
+fn found(trace: &[u32], day: u32, records: usize, room: usize) -> Vec<String> {
+    let count = trace[0];
+    let is_empty = |day: u32| trace[pair(day as usize).end - 1] == 0;
+    let places = [
+        day == 0,
+        day > 0 && day + 1 < count,
+        day + 1 == count,
+        records > 0 && day > 0 && is_empty(day - 1),
+    ];
+    let met = DAYS.iter().zip(places).filter(|(_, holds)| *holds);
+    let mut kinds: Vec<&str> = met.map(|(name, _)| *name).collect();
+    kinds.push(room_name(records, room));
+    strings(&kinds)
+}
+
+fn room_name(records: usize, room: usize) -> &'static str {
+    let needed = ANSWER_WORDS * records;
+    match room {
+        0 if records == 0 => ROOMS[0],
+        _ if records == 0 => ROOMS[1],
+        0 => ROOMS[2],
+        _ if room + 1 == needed => ROOMS[3],
+        _ if room == records => ROOMS[4],
+        _ if room < needed => ROOMS[5],
+        _ if room == needed => ROOMS[6],
+        _ if room == needed + 1 => ROOMS[7],
+        _ => ROOMS[8],
+    }
+}

@@ -1,0 +1,46 @@
+//! Finding a day of a trace and replaying it (document 02, request Two).
+
+use crate::calls::{perform, Answer, Call, Reply};
+use crate::refusal::{self, when};
+use crate::trace::{self, RECORD_WORDS};
+
+/// Words of the answer to a record: the number of its refusal or 0, then its sum or 0.
+pub const ANSWER_WORDS: usize = 2;
+
+/// The words of a day, as that part of the trace.
+pub fn find_day(trace: &[u32], day: u32) -> Result<&[u32], u32> {
+    let days = trace::days(trace).map_err(|_| refusal::TRACE)?;
+    let part = days.get(day as usize).ok_or(refusal::DAY)?;
+    Ok(&trace[part.clone()])
+}
+
+/// Performs every record of a day on a book, each as a call of its own, and writes the answers. A
+/// refused record does not stop the ones after it. Refused as a whole, it writes nothing.
+pub fn replay(book: &mut [u32], trace: &[u32], day: u32, answers: &mut [u32]) -> Result<(), u32> {
+    let calls = calls(trace, day, answers.len())?;
+    for (call, answer) in calls.into_iter().zip(answers.chunks_mut(ANSWER_WORDS)) {
+        answer.copy_from_slice(&answer_words(perform(book, call)));
+    }
+    Ok(())
+}
+
+/// The calls that a replay with so many answer words consists of; they are also what a ledger is fed.
+pub fn calls(trace: &[u32], day: u32, room: usize) -> Result<Vec<Call>, u32> {
+    let part = find_day(trace, day)?;
+    let records = part.chunks(RECORD_WORDS);
+    when(room < ANSWER_WORDS * records.len(), refusal::ROOM)?;
+    let call = |record| trace::call(record).expect("a found day has records that read");
+    Ok(records.map(call).collect())
+}
+
+/// What is written for a record that was answered so.
+pub fn answer_words(reply: Reply) -> [u32; ANSWER_WORDS] {
+    match reply {
+        Ok(Answer::Done) => [0, 0],
+        Ok(Answer::Sum(sum)) => [
+            0,
+            u32::try_from(sum).expect("two halves hold less than 2^32"),
+        ],
+        Err(number) => [number, 0],
+    }
+}

@@ -1,0 +1,143 @@
+//! Finding a day and replaying it: the example, the refusals and their order, and what is written.
+
+use draw::trace::EXAMPLE;
+use reference::calls::{clock, deliver, make, perform, query};
+use reference::replay::{answer_words, calls, find_day, replay, ANSWER_WORDS};
+use reference::trace::{lay_out, Record};
+
+fn made() -> Vec<u32> {
+    let mut book = vec![0; 90];
+    make(&mut book, 2, 2, 4, 1).unwrap();
+    book
+}
+
+#[test]
+fn the_example() {
+    let mut book = made();
+    let mut answers = [7; 11];
+    assert_eq!(replay(&mut book, &EXAMPLE, 1, &mut answers), Ok(()));
+    assert_eq!(answers, [0, 0, 0, 0, 0, 0, 0, 0, 0, 1, 7]);
+    let mut expected = made();
+    clock(&mut expected, 3).unwrap();
+    for (stamp, volume) in [(0, 3), (3, 1), (1, 1)] {
+        deliver(&mut expected, 0, stamp, volume).unwrap();
+    }
+    assert_eq!(query(&expected, 0, 2), Ok(1));
+    assert_eq!(book, expected);
+}
+
+#[test]
+fn a_day_is_a_part_of_the_trace() {
+    let found = find_day(&EXAMPLE, 1).unwrap();
+    assert!(std::ptr::eq(found, &EXAMPLE[5..]));
+    let empty = find_day(&EXAMPLE, 0).unwrap();
+    assert!(std::ptr::eq(empty, &EXAMPLE[5..5]));
+    for day in [2, 3, 64, u32::MAX] {
+        assert_eq!(find_day(&EXAMPLE, day), Err(14));
+    }
+}
+
+#[test]
+fn no_traces() {
+    let none: [&[u32]; 5] = [
+        &[],
+        &[0, 0],
+        &[65],
+        &[1, 3, 4, 3, 0, 2, 1],
+        &[1, 3, 4, 4, 0, 0, 0],
+    ];
+    for trace in none {
+        assert_eq!(find_day(trace, 0), Err(13), "{trace:?}");
+    }
+    assert_eq!(find_day(&[0], 0), Err(14));
+}
+
+#[test]
+fn refused_in_order_and_nothing_written() {
+    let mut broken = EXAMPLE;
+    broken[24] = 1;
+    let cases = [
+        (&broken, 1, 10, 13),
+        (&broken, 0, 10, 13),
+        (&broken, 2, 10, 13),
+        (&broken, 2, 0, 13),
+        (&EXAMPLE, 2, 10, 14),
+        (&EXAMPLE, 2, 0, 14),
+        (&EXAMPLE, 1, 0, 15),
+        (&EXAMPLE, 1, 5, 15),
+        (&EXAMPLE, 1, 9, 15),
+    ];
+    for (trace, day, room, number) in cases {
+        let (mut book, mut answers) = (made(), vec![7; room]);
+        let reply = replay(&mut book, trace, day, &mut answers);
+        assert_eq!(reply, Err(number), "day {day}, {room} words");
+        assert_eq!((book, answers), (made(), vec![7; room]));
+        assert_eq!(calls(trace, day, room), Err(number));
+    }
+}
+
+#[test]
+fn an_empty_day_needs_no_room() {
+    for room in [0, 1, 2] {
+        let (mut book, mut answers) = (made(), vec![7; room]);
+        assert_eq!(replay(&mut book, &EXAMPLE, 0, &mut answers), Ok(()));
+        assert_eq!((book, answers), (made(), vec![7; room]));
+    }
+}
+
+/// Bad numbers in records are no fault of the trace, and the records after them are run.
+#[test]
+fn a_refused_record_does_not_stop_the_replay() {
+    let records: [Record; 9] = [
+        [1, 3, 0, 0],
+        [2, 9, 0, 1],
+        [2, 0, 0, 0],
+        [2, 0, 4, 1],
+        [1, 2, 0, 0],
+        [2, 0, 2, 17],
+        [1, u32::MAX, 0, 0],
+        [3, 0, 5, 0],
+        [2, 0, 2, 16],
+    ];
+    let trace = lay_out(&[records.concat()]);
+    let (mut book, mut answers) = (made(), [7; 18]);
+    replay(&mut book, &trace, 0, &mut answers).unwrap();
+    let numbers: Vec<u32> = answers.iter().step_by(ANSWER_WORDS).copied().collect();
+    assert_eq!(numbers, [0, 3, 4, 8, 10, 12, 6, 5, 0]);
+    assert!(answers.iter().skip(1).step_by(2).all(|sum| *sum == 0));
+    assert_eq!(query(&book, 0, 2), Ok(16));
+}
+
+/// Each record is answered as it would be by itself, on a book that no call takes.
+#[test]
+fn a_short_or_damaged_book_refuses_each_record() {
+    let mut head = made();
+    head[7] = 1;
+    let mut block = made();
+    block[8] = 1;
+    let books = [
+        (vec![], [2; 5]),
+        (made()[..7].to_vec(), [2; 5]),
+        (made()[..89].to_vec(), [2; 5]),
+        (head, [7; 5]),
+        // The clock stays at 0, and a stamp ahead of it is refused before the block is looked at.
+        (block, [11, 11, 8, 8, 11]),
+    ];
+    for (book, numbers) in books {
+        let (mut words, mut answers) = (book.clone(), [7; 10]);
+        assert_eq!(replay(&mut words, &EXAMPLE, 1, &mut answers), Ok(()));
+        assert_eq!(answers, numbers.map(|number| [number, 0]).concat()[..]);
+        assert_eq!(words, book);
+    }
+}
+
+#[test]
+fn as_separate_calls() {
+    let (mut book, mut answers) = (made(), [7; 10]);
+    replay(&mut book, &EXAMPLE, 1, &mut answers).unwrap();
+    let (mut apart, mut words) = (made(), Vec::new());
+    for call in calls(&EXAMPLE, 1, 10).unwrap() {
+        words.extend(answer_words(perform(&mut apart, call)));
+    }
+    assert_eq!((book, &answers[..]), (apart, &words[..]));
+}

@@ -1,0 +1,147 @@
+//! Lists of calls and replays beside the ledger. A replay counts as its calls: the ledger answers each
+//! under the number that stands in the answer words, and its sum admits the one there.
+
+use draw::calls::{call_of, Source};
+use draw::random::Random;
+use draw::shapes::Makes;
+use draw::trace::{self, Drawn};
+use reference::calls::{perform, Answer, Call, Reply};
+use reference::ledger::Ledger;
+use reference::replay::{answer_words, calls, replay, ANSWER_WORDS};
+use reference::shape::Shape;
+
+/// What a list has met, so that a test can tell that it tested something.
+#[derive(Default)]
+struct Seen {
+    replays: usize,
+    refused_replays: usize,
+    refused_records: usize,
+    exact: usize,
+    inexact: usize,
+}
+
+struct List {
+    words: Vec<u32>,
+    ledger: Ledger,
+    source: Source,
+    seen: Seen,
+}
+
+impl List {
+    fn new(seed: u64, shape: Shape) -> List {
+        let mut words = vec![0; shape.book_length()];
+        perform(&mut words, call_of(shape.numbers())).unwrap();
+        List {
+            ledger: Ledger::new(shape),
+            source: Source::new(seed, Makes::Length(words.len())),
+            words,
+            seen: Seen::default(),
+        }
+    }
+
+    fn step(&mut self) {
+        let random = &mut self.source.random;
+        if random.one_in(2) {
+            let call = self.source.call(&self.ledger);
+            let reply = perform(&mut self.words, call);
+            self.note(call, answer_words(reply));
+            return;
+        }
+        let shape = self.ledger.shape();
+        let drawn = if random.one_in(6) {
+            Drawn::draw(random, shape, &self.words)
+        } else {
+            Drawn::sound(random, shape, &self.words)
+        };
+        for day in 0..drawn
+            .count()
+            .min(trace::records(&drawn.words, 0) as u32 + 3)
+        {
+            let room = trace::room(&mut self.source.random, trace::records(&drawn.words, day));
+            self.replay(&drawn.words, day, room);
+        }
+    }
+
+    fn replay(&mut self, trace: &[u32], day: u32, room: usize) {
+        let before = self.words.clone();
+        let mut answers = vec![7; room];
+        let reply = replay(&mut self.words, trace, day, &mut answers);
+        let calls = calls(trace, day, room);
+        assert_eq!(calls.as_ref().err().copied(), reply.err());
+        let Ok(calls) = calls else {
+            assert_eq!((&self.words, answers), (&before, vec![7; room]));
+            self.seen.refused_replays += 1;
+            return;
+        };
+        self.seen.replays += 1;
+        let (written, rest) = answers.split_at(ANSWER_WORDS * calls.len());
+        assert!(rest.iter().all(|word| *word == 7));
+        for (call, answer) in calls.into_iter().zip(written.as_chunks().0) {
+            self.note(call, *answer);
+        }
+    }
+
+    fn note(&mut self, call: Call, [number, sum]: [u32; ANSWER_WORDS]) {
+        let ledger: Reply = self.ledger.perform(call, self.words.len());
+        assert_eq!(ledger.err().unwrap_or(0), number, "{call:?}");
+        match ledger {
+            Ok(Answer::Sum(exact)) => {
+                assert!(self.ledger.admits(exact, sum.into()), "{exact}: {sum}");
+                let equal = exact == u64::from(sum);
+                self.seen.exact += usize::from(equal);
+                self.seen.inexact += usize::from(!equal);
+            }
+            _ => assert_eq!(sum, 0, "{call:?}"),
+        }
+        self.seen.refused_records += usize::from(number != 0);
+    }
+}
+
+#[test]
+fn lists_of_calls_and_replays() {
+    let shapes = [
+        [2, 2, 4, 1],
+        [2, 4, 12, 1],
+        [4, 6, 10, 2],
+        [5, 9, 12, 1],
+        [5, 16, 9, 3],
+        [8, 20, 12, 1],
+    ];
+    for (seed, [k, n, m, g]) in (1..).zip(shapes) {
+        let mut list = List::new(seed, Shape::new(k, n, m, g).unwrap());
+        (0..1_500).for_each(|_| list.step());
+        let Seen {
+            replays,
+            refused_replays,
+            refused_records,
+            exact,
+            ..
+        } = list.seen;
+        assert!(replays > 1_000 && refused_replays > 100, "{replays}");
+        assert!(refused_records > 100 && exact > 100, "{exact}");
+    }
+}
+
+/// Long books of a few grades, where sums come from coarse levels.
+#[test]
+fn replayed_sums_are_not_all_exact() {
+    let mut inexact = 0;
+    for seed in 11..=16 {
+        let mut list = List::new(seed, Shape::new(5, 9, 14, 1).unwrap());
+        list.source.pace.span = 600;
+        (0..1_500).for_each(|_| list.step());
+        inexact += list.seen.inexact;
+    }
+    assert!(inexact > 200, "{inexact}");
+}
+
+#[test]
+fn the_bound_is_a_bound() {
+    // 2 (k + 1) / (n - k - 1) is 6 / 3.
+    let ledger = Ledger::new(Shape::new(2, 6, 9, 1).unwrap());
+    assert!(ledger.admits(10, 30) && ledger.admits(10, 0));
+    assert!(!ledger.admits(10, 31) && !ledger.admits(0, 1));
+    let mut random = Random::new(1);
+    let without = Ledger::new(Shape::new(5, 6, 9, 1).unwrap());
+    assert!(without.admits(random.bits() >> 8, 0));
+}

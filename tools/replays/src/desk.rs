@@ -1,0 +1,188 @@
+//! One book, asked by both sides in turn. What a replay is lent has other words around it, and the answer
+//! words hold something before, so that each word that is written or left shows.
+
+use std::ops::Range;
+
+use books::pair::{Pair, WordDifference};
+use draw::random::Random;
+use reference::calls::{Answer, Call, Reply};
+use reference::replay::{self, answer_words, ANSWER_WORDS};
+
+use crate::difference::{Asked, Difference, Of, What};
+use crate::implementation::{Implementation, Lent};
+
+/// Words past the book, for replays that are lent more than it has.
+pub const TAIL: usize = 24;
+/// Words around the answers.
+const MARGIN: usize = 5;
+
+/// The calls of an accepted replay with their answers, or the number of its refusal.
+pub type Outcome = Result<Vec<(Call, Reply)>, u32>;
+
+/// A book with words around it.
+pub struct Desk {
+    random: Random,
+    words: Vec<u32>,
+    start: usize,
+    length: usize,
+}
+
+/// The words of one side.
+#[derive(Clone, PartialEq, Eq)]
+struct Side {
+    book: Vec<u32>,
+    answers: Vec<u32>,
+}
+
+impl Desk {
+    /// These words at any distance from a round address.
+    pub fn new(random: &mut Random, book: &[u32]) -> Desk {
+        let mut random = Random::new(random.bits());
+        let start = random.between(1, 8) as usize;
+        let mut words: Vec<u32> = (0..start).map(|_| random.word()).collect();
+        words.extend(book);
+        words.extend((0..TAIL).map(|_| random.word()));
+        Desk {
+            random,
+            words,
+            start,
+            length: book.len(),
+        }
+    }
+
+    /// The words of the book.
+    pub fn book(&self) -> &[u32] {
+        &self.words[self.start..self.start + self.length]
+    }
+
+    /// One call on all words of the book, by both sides.
+    pub fn call(
+        &mut self,
+        implementation: &impl Implementation,
+        call: Call,
+    ) -> Result<Reply, Box<Difference>> {
+        let mut pair = Pair::new(self.words.clone(), self.start);
+        let perform = |book: &mut [u32], call: Call| implementation.perform(book, call);
+        let reply = pair.perform(perform, self.length, call);
+        self.words[self.start..].copy_from_slice(pair.words());
+        reply.map_err(|difference| Box::new(Difference::Call(difference)))
+    }
+
+    /// Finds a day and replays it, by both sides and by the implementation's own calls one by one.
+    pub fn ask(
+        &mut self,
+        implementation: &impl Implementation,
+        asked: Asked,
+    ) -> Result<Outcome, Box<Difference>> {
+        let Asked {
+            trace, day, room, ..
+        } = asked;
+        let kept = trace.to_vec();
+        check_part(implementation, asked)?;
+        let before = Side {
+            book: self.words.clone(),
+            answers: self.answers(room),
+        };
+        let mut ours = before.clone();
+        let expected = self.lent(&mut ours, asked).by(replay::replay);
+        let refused_writes = expected.is_err() && ours != before;
+        assert!(!refused_writes, "the second program: {asked:?}");
+        let mut theirs = before.clone();
+        let found = implementation.replay(self.lent(&mut theirs, asked));
+        if found != expected {
+            let [expected, found] = [expected, found].map(|reply| reply.err().unwrap_or(0));
+            return Err(asked.difference(What::Number { expected, found }));
+        }
+        if let Some((of, word)) = self.first_word(&before, &ours, &theirs) {
+            return Err(asked.difference(What::Replayed(of, word)));
+        }
+        if let Some(word) = WordDifference::first(&kept, &kept, trace, 0) {
+            return Err(asked.difference(What::Replayed(Of::Trace, word)));
+        }
+        let calls = replay::calls(trace, day, room);
+        let mut apart = before.clone();
+        let lent = self.lent(&mut apart, asked);
+        one_by_one(implementation, lent, calls.as_deref().unwrap_or(&[]));
+        if let Some((of, word)) = self.first_word(&before, &theirs, &apart) {
+            return Err(asked.difference(What::Apart(of, word)));
+        }
+        self.words = ours.book;
+        let answers = ours.answers[MARGIN..].chunks(ANSWER_WORDS);
+        let answered = |(call, words)| (call, reply(call, words));
+        Ok(calls.map(|calls| calls.into_iter().zip(answers).map(answered).collect()))
+    }
+
+    /// Words for the answers and around them, none of which an answer is likely to be.
+    fn answers(&mut self, room: usize) -> Vec<u32> {
+        let words = 0..room + 2 * MARGIN;
+        words.map(|_| self.random.word() | 1 << 31).collect()
+    }
+
+    /// What a replay is lent of a side.
+    fn lent<'l>(&self, side: &'l mut Side, asked: Asked<'l>) -> Lent<'l> {
+        Lent {
+            book: &mut side.book[self.start..self.start + asked.lent],
+            trace: asked.trace,
+            day: asked.day,
+            answers: &mut side.answers[MARGIN..MARGIN + asked.room],
+        }
+    }
+
+    fn first_word(
+        &self,
+        before: &Side,
+        expected: &Side,
+        found: &Side,
+    ) -> Option<(Of, WordDifference)> {
+        let book = WordDifference::first(&before.book, &expected.book, &found.book, self.start);
+        let answers = || {
+            let words = [before, expected, found].map(|side| &side.answers[..]);
+            WordDifference::first(words[0], words[1], words[2], MARGIN)
+        };
+        let book = book.map(|word| (Of::Book, word));
+        book.or_else(|| answers().map(|word| (Of::Answers, word)))
+    }
+}
+
+/// The parts must be the same words at the same place, not only equal ones.
+fn check_part(implementation: &impl Implementation, asked: Asked) -> Result<(), Box<Difference>> {
+    let Asked { trace, day, .. } = asked;
+    let expected = replay::find_day(trace, day);
+    let found = implementation.find_day(trace, day);
+    let equal = match (expected, found) {
+        (Ok(expected), Ok(found)) => std::ptr::eq(expected, found),
+        (expected, found) => expected == found,
+    };
+    if equal {
+        return Ok(());
+    }
+    let place = |part| place(trace, part);
+    let expected = expected.map(|part| place(part).expect("a part of the trace"));
+    let found = found.map(place);
+    Err(asked.difference(What::Part { expected, found }))
+}
+
+/// Where a part stands in a trace, if it is one.
+fn place(trace: &[u32], part: &[u32]) -> Option<Range<usize>> {
+    let [first, start] = [trace, part].map(|words| words.as_ptr().addr());
+    let start = start.checked_sub(first)? / size_of::<u32>();
+    let end = start + part.len();
+    (end <= trace.len()).then_some(start..end)
+}
+
+/// The implementation's own calls, with their answers written as a replay writes them.
+fn one_by_one(implementation: &impl Implementation, lent: Lent, calls: &[Call]) {
+    let places = lent.answers.chunks_mut(ANSWER_WORDS);
+    for (call, place) in calls.iter().zip(places) {
+        place.copy_from_slice(&answer_words(implementation.perform(lent.book, *call)));
+    }
+}
+
+/// What the words of an answer say of a call.
+fn reply(call: Call, words: &[u32]) -> Reply {
+    match (words[0], call) {
+        (0, Call::Query { .. }) => Ok(Answer::Sum(words[1].into())),
+        (0, _) => Ok(Answer::Done),
+        (number, _) => Err(number),
+    }
+}

@@ -1,0 +1,134 @@
+//! Lists of calls and replays from a make on, beside the ledger. A replay counts there as its calls, one
+//! that is refused as none.
+
+use draw::calls::{call_of, Source};
+use draw::pace::Pace;
+use draw::random::Random;
+use draw::shapes::{self, Makes};
+use draw::trace::{self, Drawn};
+use reference::calls::{Answer, Call, Reply};
+use reference::ledger::Ledger;
+use reference::replay::ANSWER_WORDS;
+
+use crate::desk::Desk;
+use crate::difference::{Asked, Difference};
+use crate::implementation::Implementation;
+use crate::summary::Summary;
+
+/// Longer books would leave time for few calls only.
+const LONGEST: usize = 2_000;
+
+/// A book and its ledger.
+pub struct List<'i, I> {
+    implementation: &'i I,
+    source: Source,
+    desk: Desk,
+    ledger: Ledger,
+}
+
+impl<'i, I: Implementation> List<'i, I> {
+    /// The list after an accepted make of a shape with a short book.
+    pub fn new(implementation: &'i I, random: &mut Random) -> Result<List<'i, I>, Box<Difference>> {
+        let shape = loop {
+            let shape = shapes::draw(random);
+            if shape.book_length() <= LONGEST {
+                break shape;
+            }
+        };
+        let length = shape.book_length();
+        let mut desk = Desk::new(random, &vec![0; length]);
+        let made = desk.call(implementation, call_of(shape.numbers()))?;
+        assert_eq!(made, Ok(Answer::Done), "a make of the book's length");
+        Ok(List {
+            implementation,
+            source: Source {
+                pace: Pace::growing(random),
+                random: Random::new(random.bits()),
+                makes: Makes::Length(length),
+            },
+            desk,
+            ledger: Ledger::new(shape),
+        })
+    }
+
+    /// One more step: a call, or replays of days that were drawn for the book.
+    pub fn step(&mut self, summary: &mut Summary) -> Result<(), Box<Difference>> {
+        let (shape, random) = (self.ledger.shape(), &mut self.source.random);
+        match random.below(6) {
+            0..=1 => {
+                let call = self.source.call(&self.ledger);
+                let reply = self.desk.call(self.implementation, call)?;
+                summary.add_to_list("a call");
+                self.note(call, reply, summary)
+            }
+            2 => {
+                let drawn = Drawn::draw(random, shape, self.desk.book());
+                let day = trace::day(random, drawn.count());
+                let room = trace::room(random, trace::records(&drawn.words, day));
+                self.replay(&drawn.words, day, room, summary)
+            }
+            _ => {
+                let drawn = Drawn::sound(random, shape, self.desk.book());
+                let needed = |day| ANSWER_WORDS * trace::records(&drawn.words, day);
+                let mut days = 0..drawn.count();
+                days.try_for_each(|day| self.replay(&drawn.words, day, needed(day), summary))
+            }
+        }
+    }
+
+    fn replay(
+        &mut self,
+        trace: &[u32],
+        day: u32,
+        room: usize,
+        summary: &mut Summary,
+    ) -> Result<(), Box<Difference>> {
+        let asked = Asked {
+            trace,
+            day,
+            lent: self.desk.book().len(),
+            room,
+        };
+        let outcome = self.desk.ask(self.implementation, asked)?;
+        summary.add_to_list(match outcome {
+            Ok(_) => "a replay",
+            Err(_) => "a refused replay",
+        });
+        let mut calls = outcome.into_iter().flatten();
+        calls.try_for_each(|(call, reply)| self.note(call, reply, summary))
+    }
+
+    fn note(
+        &mut self,
+        call: Call,
+        found: Reply,
+        summary: &mut Summary,
+    ) -> Result<(), Box<Difference>> {
+        let expected = self.ledger.perform(call, self.desk.book().len());
+        if let (Ok(Answer::Sum(exact)), Ok(Answer::Sum(sum))) = (expected, found) {
+            let is_exact = exact == sum;
+            summary.add_to_list(if is_exact {
+                "an exact sum"
+            } else {
+                "another sum"
+            });
+        }
+        if agrees(&self.ledger, expected, found) {
+            return Ok(());
+        }
+        Err(Box::new(Difference::Ledger {
+            call,
+            expected,
+            found,
+        }))
+    }
+}
+
+/// Whether a book may answer this where its ledger answers that: under the same number, and with a sum
+/// within the bound.
+pub fn agrees(ledger: &Ledger, expected: Reply, found: Reply) -> bool {
+    match (expected, found) {
+        (Ok(Answer::Sum(exact)), Ok(Answer::Sum(sum))) => ledger.admits(exact, sum),
+        (expected, found) => expected == found,
+    }
+}

@@ -1,0 +1,154 @@
+//! How many traces, replays and answers of each kind a run saw.
+
+use std::fmt::{self, Display, Formatter};
+
+use draw::book::Kind;
+use draw::tally::Tally;
+use draw::trace::{damage, met, Drawn, FORMS};
+use reference::protocol::answer;
+use reference::refusal;
+
+use crate::desk::Outcome;
+use crate::difference::Asked;
+
+/// A run of so many traces must show every kind of trace, of replay and of answer.
+pub const TRACES_FOR_ALL: u64 = 4_000;
+
+/// Counts of a run.
+#[derive(Clone, Debug, PartialEq, Eq)]
+pub struct Summary {
+    ways: Tally,
+    sound: Tally,
+    damaged: Tally,
+    books: Tally,
+    replays: Tally,
+    answers: Tally,
+    met: Tally,
+    lists: Tally,
+}
+
+/// Nothing counted yet.
+impl Default for Summary {
+    fn default() -> Summary {
+        let ways = [
+            "any days",
+            "all days in turn",
+            "every word",
+            "every room",
+            "a list",
+        ];
+        let books = ["grown", "built", "damaged", "lent other words"];
+        let lists = [
+            "a call",
+            "a replay",
+            "a refused replay",
+            "an exact sum",
+            "another sum",
+        ];
+        let replays = refusal::REPLAYS.map(|number| answer(Err(number)));
+        // No record is a make.
+        let answers = refusal::CALLS.filter(|number| *number != refusal::SHAPE);
+        Summary {
+            ways: Tally::new(ways, TRACES_FOR_ALL),
+            sound: Tally::new(FORMS.map(|(name, _, _)| name), TRACES_FOR_ALL / 4),
+            damaged: Tally::new(damage::KINDS.map(|(name, _)| name), TRACES_FOR_ALL / 4),
+            books: Tally::new(books, TRACES_FOR_ALL),
+            replays: Tally::new(
+                ["replayed".to_string()].into_iter().chain(replays),
+                TRACES_FOR_ALL,
+            ),
+            answers: Tally::of_answers(answers, &[], 4 * TRACES_FOR_ALL),
+            met: Tally::new(met::all(), 8 * TRACES_FOR_ALL),
+            lists: Tally::new(lists, TRACES_FOR_ALL / 4),
+        }
+    }
+}
+
+impl Summary {
+    /// Counts a trial by what it does.
+    pub fn add_way(&mut self, way: &str) {
+        self.ways.add(way);
+    }
+
+    /// Counts a trace.
+    pub fn add_trace(&mut self, drawn: &Drawn) {
+        let tally = if drawn.damaged {
+            &mut self.damaged
+        } else {
+            &mut self.sound
+        };
+        tally.add(drawn.kind);
+    }
+
+    /// Counts a book.
+    pub fn add_book(&mut self, kind: Kind) {
+        self.books.add(match kind {
+            Kind::Grown => "grown",
+            Kind::Built => "built",
+            Kind::Damaged(_) => "damaged",
+        });
+    }
+
+    /// Counts a replay on which both sides agree, of a book with so many words.
+    pub fn add_replay(&mut self, asked: Asked, exact: usize, outcome: &Outcome) {
+        if asked.lent != exact {
+            self.books.add("lent other words");
+        }
+        for kind in met::kinds(asked.trace, asked.day, asked.room) {
+            self.met.add(&kind);
+        }
+        match outcome {
+            Ok(replies) => {
+                self.replays.add("replayed");
+                for (_, reply) in replies {
+                    self.answers.add_answer(&answer(*reply));
+                }
+            }
+            Err(number) => self.replays.add(&answer(Err(*number))),
+        }
+    }
+
+    /// Counts what a list met.
+    pub fn add_to_list(&mut self, what: &str) {
+        self.lists.add(what);
+    }
+
+    /// All traces, a list counting as one.
+    pub fn traces(&self) -> u64 {
+        self.ways.total()
+    }
+
+    /// How often each kind of trace, of day and of room was met.
+    pub fn met(&self) -> &Tally {
+        &self.met
+    }
+
+    /// What never occurred in a run that is long enough for it.
+    pub fn faults(&self) -> Vec<String> {
+        let tallies = [
+            &self.ways,
+            &self.sound,
+            &self.damaged,
+            &self.books,
+            &self.replays,
+            &self.answers,
+            &self.met,
+            &self.lists,
+        ];
+        tallies.into_iter().flat_map(Tally::faults).collect()
+    }
+}
+
+impl Display for Summary {
+    fn fmt(&self, f: &mut Formatter<'_>) -> fmt::Result {
+        let (traces, replays) = (self.traces(), self.replays.total());
+        write!(f, "{traces} traces ({}), {replays} replays, ", self.ways)?;
+        write!(f, "all equal; {}; records: {}", self.replays, self.answers)?;
+        write!(
+            f,
+            "; lists: {}; kinds met: {}",
+            self.lists,
+            self.met.total()
+        )
+    }
+}

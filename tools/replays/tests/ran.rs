@@ -1,0 +1,251 @@
+//! A usual run finds replays that run their records wrongly or write wrong words.
+
+mod wrong;
+
+use reference::calls::{perform, Answer, Call, Reply};
+use reference::replay::{answer_words, calls, replay, ANSWER_WORDS};
+use replays::difference::{Difference, Of, What};
+use replays::implementation::{Implementation, Lent};
+use wrong::{assert_equal, difference};
+
+/// The second program, but this runs the calls of an accepted replay and writes the answers.
+struct Running<R>(R);
+
+impl<R: Fn(&mut [u32], &[Call], &mut [u32])> Implementation for Running<R> {
+    fn replay(&self, lent: Lent) -> Result<(), u32> {
+        let calls = calls(lent.trace, lent.day, lent.answers.len())?;
+        (self.0)(lent.book, &calls, lent.answers);
+        Ok(())
+    }
+}
+
+/// Runs calls, with the answer words as this function of the reply.
+fn answering(
+    book: &mut [u32],
+    calls: &[Call],
+    answers: &mut [u32],
+    write: impl Fn(&mut [u32], Reply),
+) {
+    for (call, place) in calls.iter().zip(answers.chunks_mut(ANSWER_WORDS)) {
+        write(place, perform(book, *call));
+    }
+}
+
+/// The right answer words.
+fn right(place: &mut [u32], reply: Reply) {
+    place.copy_from_slice(&answer_words(reply));
+}
+
+/// Whose word differs first.
+fn word_of(found: Option<Difference>) -> Option<Of> {
+    match found {
+        Some(Difference::Day {
+            what: What::Replayed(of, _),
+            ..
+        }) => Some(of),
+        _ => None,
+    }
+}
+
+fn ran(run: impl Fn(&mut [u32], &[Call], &mut [u32])) -> Option<Difference> {
+    difference(&Running(run))
+}
+
+#[test]
+fn nothing_changed() {
+    let run = |book: &mut [u32], calls: &[Call], answers: &mut [u32]| {
+        answering(book, calls, answers, right);
+    };
+    assert_equal(&Running(run));
+}
+
+#[test]
+fn a_refused_record_stops_the_replay() {
+    let found = ran(|book, calls, answers| {
+        for (call, place) in calls.iter().zip(answers.chunks_mut(ANSWER_WORDS)) {
+            let reply = perform(book, *call);
+            right(place, reply);
+            if reply.is_err() {
+                return;
+            }
+        }
+    });
+    assert!(word_of(found).is_some());
+}
+
+/// A refused record is taken back with all before it.
+#[test]
+fn all_or_nothing() {
+    let found = ran(|book, calls, answers| {
+        let before = book.to_vec();
+        let mut refused = false;
+        for (call, place) in calls.iter().zip(answers.chunks_mut(ANSWER_WORDS)) {
+            let reply = perform(book, *call);
+            refused |= reply.is_err();
+            right(place, reply);
+        }
+        if refused {
+            book.copy_from_slice(&before);
+        }
+    });
+    assert_eq!(word_of(found), Some(Of::Book));
+}
+
+#[test]
+fn records_in_another_order() {
+    let found = ran(|book, calls, answers| {
+        let places = answers.chunks_mut(ANSWER_WORDS);
+        for (call, place) in calls.iter().zip(places).rev() {
+            right(place, perform(book, *call));
+        }
+    });
+    assert!(word_of(found).is_some());
+}
+
+#[test]
+fn a_record_left_out() {
+    let first = ran(|book, calls, answers| {
+        if let ([_, calls @ ..], [first, second, answers @ ..]) = (calls, answers) {
+            (*first, *second) = (0, 0);
+            answering(book, calls, answers, right);
+        }
+    });
+    assert!(word_of(first).is_some());
+    let last = ran(|book, calls, answers| {
+        let all = calls.len();
+        answering(book, &calls[..all.max(1) - 1], answers, right);
+    });
+    assert!(word_of(last).is_some());
+}
+
+#[test]
+fn answers_without_a_book() {
+    let found = ran(|book, calls, answers| {
+        let mut copy = book.to_vec();
+        answering(&mut copy, calls, answers, right);
+    });
+    assert_eq!(word_of(found), Some(Of::Book));
+}
+
+#[test]
+fn wrong_answer_words() {
+    type Write = fn(&mut [u32], Reply);
+    let writes: [(&str, Write); 5] = [
+        ("the number twice", |place, reply| {
+            right(place, reply);
+            if place[0] != 0 {
+                place[1] = place[0];
+            }
+        }),
+        ("the sum first", |place, reply| {
+            right(place, reply);
+            place.swap(0, 1);
+        }),
+        ("no number", |place, reply| {
+            right(place, reply);
+            place[0] = 0;
+        }),
+        ("the sum left where there is none", |place, reply| {
+            let before = place[1];
+            right(place, reply);
+            if !matches!(reply, Ok(Answer::Sum(_))) {
+                place[1] = before;
+            }
+        }),
+        ("1 for done", |place, reply| {
+            right(place, reply);
+            if reply == Ok(Answer::Done) {
+                place[1] = 1;
+            }
+        }),
+    ];
+    for (name, write) in writes {
+        let found = ran(|book, calls, answers| answering(book, calls, answers, write));
+        assert_eq!(word_of(found), Some(Of::Answers), "{name}");
+    }
+}
+
+#[test]
+fn words_past_the_answers_cleared() {
+    let found = ran(|book, calls, answers| {
+        answers.fill(0);
+        answering(book, calls, answers, right);
+    });
+    assert_eq!(word_of(found), Some(Of::Answers));
+}
+
+/// The second program, but something happens after a replay.
+struct After<A>(A);
+
+impl<A: Fn(&mut [u32], &mut [u32], Result<(), u32>) -> Result<(), u32>> Implementation
+    for After<A>
+{
+    fn replay(&self, lent: Lent) -> Result<(), u32> {
+        lent.by(|book, trace, day, answers| {
+            let reply = replay(book, trace, day, answers);
+            (self.0)(book, answers, reply)
+        })
+    }
+}
+
+#[test]
+fn a_refused_replay_that_writes() {
+    for number in [13, 14, 15] {
+        let found = difference(&After(|_: &mut [u32], answers: &mut [u32], reply| {
+            if let (Err(refused), Some(first)) = (reply, answers.first_mut()) {
+                *first = if refused == number { number } else { *first };
+            }
+            reply
+        }));
+        assert_eq!(word_of(found), Some(Of::Answers), "{number}");
+        let found = difference(&After(|book: &mut [u32], _: &mut [u32], reply| {
+            if let (true, Some(last)) = (reply == Err(number), book.last_mut()) {
+                *last ^= 1;
+            }
+            reply
+        }));
+        assert_eq!(word_of(found), Some(Of::Book), "{number}");
+    }
+}
+
+/// A book that no call takes is no reason to refuse the replay.
+#[test]
+fn a_bad_book_refuses_the_replay() {
+    for number in [2, 7, 11] {
+        let found = difference(&After(|_: &mut [u32], answers: &mut [u32], reply| {
+            let mut numbers = answers.iter().step_by(ANSWER_WORDS);
+            match reply {
+                Ok(()) if numbers.any(|found| *found == number) => Err(number),
+                _ => reply,
+            }
+        }));
+        assert!(found.is_some(), "{number}");
+    }
+}
+
+/// Both sides agree on each replay, but the implementation's own calls do something else.
+#[test]
+fn separate_calls_that_differ() {
+    struct Apart;
+    impl Implementation for Apart {
+        fn perform(&self, book: &mut [u32], call: Call) -> Reply {
+            match perform(book, call) {
+                Ok(Answer::Sum(sum)) => Ok(Answer::Sum(sum + 1)),
+                reply => reply,
+            }
+        }
+    }
+    let found = difference(&Apart);
+    let apart = |found: &Difference| {
+        let by_call = matches!(found, Difference::Call(_));
+        let by_day = matches!(
+            found,
+            Difference::Day {
+                what: What::Apart(..),
+                ..
+            }
+        );
+        by_call || by_day
+    };
+    assert!(found.is_some_and(|found| apart(&found)));
+}

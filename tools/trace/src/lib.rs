@@ -1,0 +1,9 @@
+//! A trace as files: lines of the bench protocol for each day on one side, 32-bit words with the low byte
+//! first on the other. What a trace is, the second program says.
+
+#![forbid(unsafe_code)]
+#![warn(missing_docs)]
+
+pub mod command;
+pub mod make;
+pub mod print;

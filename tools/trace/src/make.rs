@@ -1,0 +1,33 @@
+//! From lines of the bench protocol to a trace.
+
+use reference::protocol::parse;
+use reference::trace::{lay_out, record, DAYS_MAX};
+
+/// The trace of these days, each a name and its lines; the error names the day and the line.
+pub fn make(days: &[(String, Vec<u8>)]) -> Result<Vec<u32>, String> {
+    if days.len() > DAYS_MAX as usize {
+        return Err(format!("{} days, at most {DAYS_MAX}", days.len()));
+    }
+    let days: Result<Vec<Vec<u32>>, String> = days
+        .iter()
+        .map(|(name, text)| day(text).map_err(|trouble| format!("{name}, {trouble}")))
+        .collect();
+    Ok(lay_out(&days?))
+}
+
+/// The records of a day's lines. The last newline may be missing.
+fn day(text: &[u8]) -> Result<Vec<u32>, String> {
+    let mut words = Vec::new();
+    for (number, line) in (1..).zip(text.split_inclusive(|byte| *byte == b'\n')) {
+        let line = line.strip_suffix(b"\n").unwrap_or(line);
+        let call = parse(line).ok_or(format!("line {number}: no line of the bench protocol"))?;
+        let record = record(call).ok_or(format!("line {number}: a trace records no make"))?;
+        words.extend(record);
+    }
+    Ok(words)
+}
+
+/// The bytes of words, the low one of each first.
+pub fn bytes(words: &[u32]) -> Vec<u8> {
+    words.iter().flat_map(|word| word.to_le_bytes()).collect()
+}

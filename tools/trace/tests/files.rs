@@ -1,0 +1,175 @@
+//! The program on files: a trace made from lines, printed again, and what is wrong with either.
+
+use std::ffi::OsStr;
+use std::path::{Path, PathBuf};
+use std::process::{Command, Output};
+use std::{env, fs, process};
+
+use draw::trace::EXAMPLE;
+
+/// A folder of this test's own, removed at its end.
+struct Folder(PathBuf);
+
+impl Folder {
+    fn new(name: &str) -> Folder {
+        let path = env::temp_dir().join(format!("trace-{name}-{}", process::id()));
+        fs::create_dir_all(&path).expect("a new folder");
+        Folder(path)
+    }
+
+    fn file(&self, name: &str, content: impl AsRef<[u8]>) -> PathBuf {
+        let path = self.0.join(name);
+        fs::write(&path, content).expect("a new file");
+        path
+    }
+}
+
+impl Drop for Folder {
+    fn drop(&mut self) {
+        // What is left in a temporary folder harms nobody.
+        let _ = fs::remove_dir_all(&self.0);
+    }
+}
+
+fn trace<A: AsRef<OsStr>>(arguments: &[A]) -> Output {
+    let mut command = Command::new(env!("CARGO_BIN_EXE_trace"));
+    command.args(arguments).output().expect("the program runs")
+}
+
+/// Standard output of a run that succeeds.
+fn printed<A: AsRef<OsStr>>(arguments: &[A]) -> Vec<u8> {
+    let output = trace(arguments);
+    let trouble = String::from_utf8_lossy(&output.stderr);
+    assert!(output.status.success(), "{trouble}");
+    output.stdout
+}
+
+/// What a run that fails says.
+fn trouble<A: AsRef<OsStr>>(arguments: &[A], status: i32) -> String {
+    let output = trace(arguments);
+    assert_eq!(output.status.code(), Some(status));
+    assert!(output.stdout.is_empty());
+    String::from_utf8(output.stderr).expect("text")
+}
+
+/// The bytes of words.
+fn bytes(words: &[u32]) -> Vec<u8> {
+    words.iter().flat_map(|word| word.to_le_bytes()).collect()
+}
+
+fn words_of(file: &Path) -> Vec<u32> {
+    let content = fs::read(file).expect("a written file");
+    let words = content.as_chunks().0.iter();
+    words.map(|word| u32::from_le_bytes(*word)).collect()
+}
+
+const LINES: &str = "c 3\nd 0 0 3\nd 0 3 1\nd 0 1 1\nq 0 2\n";
+
+#[test]
+fn the_example_there_and_back() {
+    let folder = Folder::new("example");
+    let (empty, day) = (folder.file("0.txt", ""), folder.file("1.txt", LINES));
+    let output = folder.0.join("trace");
+    let [make, dash_o] = ["make", "-o"].map(PathBuf::from);
+    let silent = printed(&[&make, &dash_o, &output, &empty, &day]);
+    assert_eq!(silent, b"");
+    assert_eq!(words_of(&output), EXAMPLE);
+    assert_eq!(printed(&[&make, &empty, &day]), bytes(&EXAMPLE));
+    let text = String::from_utf8(printed(&[&PathBuf::from("print"), &output])).unwrap();
+    let head = "days 2, words 25\nday 0: start 5, words 0\nday 1: start 5, words 20\n";
+    assert_eq!(text, format!("{head}{LINES}"));
+}
+
+#[test]
+fn the_last_newline_may_be_missing() {
+    let folder = Folder::new("newline");
+    let day = folder.file("day", "c 3\nq 0 2");
+    let made = printed(&[Path::new("make"), &day]);
+    assert_eq!(made, bytes(&[1, 3, 8, 1, 3, 0, 0, 3, 0, 2, 0]));
+}
+
+#[test]
+fn lines_that_are_no_records() {
+    let folder = Folder::new("lines");
+    let good = folder.file("good", "c 1\n");
+    for (line, reason) in [
+        ("m 2 2 4 1", "a trace records no make"),
+        ("c", "no line of the bench protocol"),
+        ("c 03", "no line of the bench protocol"),
+        ("d 0 0 4294967296", "no line of the bench protocol"),
+        ("q 0 2 ", "no line of the bench protocol"),
+        ("", "no line of the bench protocol"),
+        ("c 3\r", "no line of the bench protocol"),
+    ] {
+        let bad = folder.file("bad", format!("c 1\n{line}\nc 2\n"));
+        let said = trouble(&[Path::new("make"), &good, &bad], 1);
+        let expected = format!("{}, line 2: {reason}\n", bad.display());
+        assert_eq!(said, expected, "{line}");
+    }
+}
+
+#[test]
+fn most_days() {
+    let folder = Folder::new("days");
+    let day = folder.file("day", "c 1\n");
+    let words = |days: usize| [vec![PathBuf::from("make")], vec![day.clone(); days]].concat();
+    assert_eq!(printed(&words(64))[..4], [64, 0, 0, 0]);
+    assert_eq!(trouble(&words(65), 1), "65 days, at most 64\n");
+}
+
+#[test]
+fn broken_layouts_are_explained() {
+    let folder = Folder::new("broken");
+    let said = |name: &str, content: &[u8]| {
+        let file = folder.file(name, content);
+        let said = trouble(&[Path::new("print"), &file], 1);
+        let prefix = format!("{}: ", file.display());
+        said.strip_prefix(&prefix)
+            .expect("the file's name")
+            .to_string()
+    };
+    let after = |set: &[(usize, u32)]| {
+        let mut words = EXAMPLE;
+        set.iter().for_each(|(word, value)| words[*word] = *value);
+        said("words", &bytes(&words))
+    };
+    assert_eq!(after(&[(3, 6)]), "word 3: day 1 starts at 6, not 5\n");
+    assert_eq!(after(&[(9, 4)]), "word 9: day 1 has a record of kind 4\n");
+    let rest = "word 24: day 1 has a record with 7 in place of 0\n";
+    assert_eq!(after(&[(24, 7)]), rest);
+    let half = &bytes(&EXAMPLE)[..98];
+    assert_eq!(said("half", half), "98 bytes are no whole 32-bit words\n");
+    let none = "there is no word, not even a count of days\n";
+    assert_eq!(said("none", b""), none);
+}
+
+#[test]
+fn wrong_command_lines() {
+    for (words, reason) in [
+        (&[][..], "make or print is missing"),
+        (&["make"], "DAY is missing"),
+        (&["print"], "FILE is missing"),
+        (&["print", "a", "b"], "one word too many: b"),
+        (&["print", "-o", "a", "b"], "-o goes with make"),
+        (&["make", "-o"], "-o needs a file"),
+        (&["make", "--other", "a"], "unknown or twice: --other"),
+        (&["show", "a"], "neither make nor print: show"),
+    ] {
+        let said = trouble(words, 2);
+        assert!(said.starts_with(&format!("{reason}\n\nusage: ")), "{said}");
+    }
+}
+
+#[test]
+fn files_that_cannot_be_read_or_written() {
+    let folder = Folder::new("missing");
+    let missing = folder.0.join("missing");
+    for command in ["make", "print"] {
+        let said = trouble(&[Path::new(command), &missing], 1);
+        assert!(said.contains("missing: "), "{said}");
+    }
+    let day = folder.file("day", "c 1\n");
+    let nowhere = missing.join("trace");
+    let said = trouble(&[Path::new("make"), Path::new("-o"), &nowhere, &day], 1);
+    assert!(said.contains("trace: "), "{said}");
+}

@@ -10,7 +10,6 @@ ghost use mathlib.Core.Bool.{cond};
 ghost use Rattle.shape.specs.Limits.{within, shaped};
 ghost use Rattle.shape.specs.Layout.{bookWords};
 ghost use Rattle.model.specs.declared.Call.the-variants as Call;
-ghost use Rattle.model.specs.Reply.{replyOf};
 ghost use Rattle.model.specs.Calls.{perform};
 ghost use Rattle.model.specs.Trace.{dayReply};
 ghost use Rattle.model.specs.Replay.{replay};
@@ -69,7 +68,7 @@ pub extern "C" fn litres_day(trace: &[u32], day: u32, start: &mut usize, length:
     ensures { λ r. ⌜ (r, now (start .exit), now (length .exit)) ≡ placeOf (dayReply (now (trace .entry)) day) ⌝ }
 {
     match trace::judge_day(trace, day) {
-        Found::Day(pair) => {
+        Found::At(pair) => {
             *start = wide(pair.start);
             *length = wide(pair.length);
             0

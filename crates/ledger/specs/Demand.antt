@@ -17,7 +17,7 @@ use Rattle.model.specs.Block.{late, windowSum}
 use Rattle.model.specs.Words.{shapeOf, clockOf}
 use Rattle.model.specs.Calls.{View, blockAt, firstOf, refusals, bookView, accept, perform, clocked, delivered}
 use Rattle.model.specs.Ledger.{Entry, Ledger, ledgerOf, volumeOf, ofGrade, ofWindow, ledgerView, note, enter}
-use Rattle.model.specs.Claim.{Turn, runCalls, Step, ByCall, Admits, Bound, Span, Outside, Kept, Claim}
+use Rattle.model.specs.Claim.{Turn, runCalls, ByCall, Admits, Bound, Span, Outside, Kept, Claim}
 use Rattle.laws.specs.Cond.{eq-or-ne}
 use Rattle.laws.specs.Refusals.{accepted-make, accepted-clock, accepted-delivery, accepted-query, late-delivery, settle-accepted, settle-refused, perform-number, enter-number}
 use Rattle.ledger.specs.Time.{late-outside}
@@ -26,7 +26,7 @@ use Rattle.ledger.specs.State.{Good, wordsOf, words-shape, words-clock}
 use Rattle.ledger.specs.Agree.{agree}
 use Rattle.ledger.specs.Next.{made-words, made-good, block-is, clocked-words, clocked-good, delivered-words, delivered-good}
 use Rattle.ledger.specs.Window.{sum-admits}
-use Rattle.ledger.specs.Steps.{expand, run-calls, each-writes}
+use Rattle.ledger.specs.Steps.{expand, run-expand, each-as-turns}
 
 -- what a call leads to: the ledger afterwards, whose words are then the book's; within a span k stays and the clock does not fall
 pub record Next (l : Ledger) (call : Call) : Type 0 where
@@ -246,4 +246,4 @@ demand-3 before k n m g number steps =
     let words : perform before call .left ≡ wordsOf l =
     ap (λ o. o .left) (settle-accepted (refusals (bookView before) call) before (accept before call) h) ∙ made-words (shaped k n m g) in
     let held : Kept (grown l (expand steps)) = kept (expand steps) l (made-good k n m g (accepted-make (bookView before) k n m g h .0)) in
-    (rw (run-calls (perform before call .left) l steps, words) held, each-writes (perform before call .left) l steps)
+    (rw (run-expand (perform before call .left) l steps, words) held, each-as-turns (perform before call .left) l steps)

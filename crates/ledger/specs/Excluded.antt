@@ -1,6 +1,6 @@
 -- What the claim (demand 3) alone excludes: a book that answers every question with one number, and a book whose deliveries store nothing.
 -- If the claim is made of such a book, a list of calls refutes it. Rests on the definitions alone.
-use mathlib.Core.Path.{_≡_, refl, ap, _∙_}
+use mathlib.Core.Path.{_≡_, refl}
 use mathlib.Core.List.{List, [], _∷_, map}
 use Prim.Native.Nat.{ℕ, _+_, _*_, _≤_}
 use native.Mathlib.Omega.{arith}
@@ -15,8 +15,8 @@ use Rattle.model.specs.Words.{decodeLevel, decodeHalf, decodeBlock, encodeLevel
 use Rattle.model.specs.Sound.{soundHead, soundLevel, soundHalf, soundBlock}
 use Rattle.model.specs.Calls.{Outcome, outcomeOf, refusals, bookView, made, clocked, delivered, perform}
 use Rattle.model.specs.Ledger.{Ledger, ledgerOf, ledgerView, enter}
-use Rattle.model.specs.Claim.{Turn, runCalls, Step, once, Kept, Claim}
-use Rattle.ledger.specs.Steps.{expand, expand-once, run-calls, each-writes}
+use Rattle.model.specs.Claim.{Turn, runCalls, once, Kept, Claim}
+use Rattle.ledger.specs.Steps.{expand, expand-once, run-expand, each-as-turns}
 
 -- a book is a way to perform calls
 abbrev pub Book : Type 0
@@ -48,13 +48,13 @@ claim-same = (there, back)
     there claim before k n m g h calls =
         let ws : List ℕ = perform before (Make k n m g) .left in
         let l : Ledger = ledgerOf (shaped k n m g) 0 [] in
-        rw (run-same ws l calls) (rw (run-calls ws l (map once calls), expand-once calls) at (claim before k n m g h (map once calls) .0))
+        rw (run-same ws l calls) (rw (run-expand ws l (map once calls), expand-once calls) at (claim before k n m g h (map once calls) .0))
 
     back : ClaimOf perform → Claim
     back claim before k n m g h steps =
         let ws : List ℕ = perform before (Make k n m g) .left in
         let l : Ledger = ledgerOf (shaped k n m g) 0 [] in
-        (rw (run-calls ws l steps) (rw (run-same ws l (expand steps)) at (claim before k n m g h (expand steps))), each-writes ws l steps)
+        (rw (run-expand ws l steps) (rw (run-same ws l (expand steps)) at (claim before k n m g h (expand steps))), each-as-turns ws l steps)
 
 -- ---- a constant sum
 

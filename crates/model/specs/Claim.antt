@@ -1,15 +1,17 @@
 -- SPECIFICATION 9, the claim (the customer's demand 3): one statement about a whole list of calls and replays, proved in `ledger`. Assumes
 -- nothing.
-use mathlib.Core.Bool.{false}
+use mathlib.Core.Bool.{false, cond}
 use mathlib.Core.Path.{_≡_}
 use mathlib.Core.List.{List, [], _∷_, _++_, map}
 use Prim.Native.Nat.{ℕ, _+_, _-_, _*_, _^_, _≤_, _<_}
+use lib.Dec.{eqb}
 use lib.ListN.{length, getD}
 use Rattle.shape.specs.Limits.{Reply, shaped}
 use Rattle.model.specs.declared.Call.{Call}
 use Rattle.model.specs.declared.Call.the-variants.{Make, Clock, Delivery, Query}
 use Rattle.model.specs.Block.{covers}
 use Rattle.model.specs.Calls.{perform}
+use Rattle.model.specs.Trace.{recordsOf, callOf, foundDay}
 use Rattle.model.specs.Replay.{withAnswers, replayCalls, replay}
 use Rattle.model.specs.Ledger.{Ledger, ledgerOf, enter}
 
@@ -26,7 +28,7 @@ runCalls ws l (call ∷ calls) =
     let noted = enter (length ws) l call in
     record { call = call; ledger = l; book = done .reply; exact = noted .reply } ∷ runCalls (done .left) (noted .left) calls
 
-abbrev pub ledgerBy : List ℕ → Ledger → List Call → Ledger  -- the ledger after these calls
+abbrev pub ledgerBy : List ℕ → Ledger → List Call → Ledger  -- SPECIFICATION 9.1: the ledger after these calls; of the words it is told only how many each call is lent
 ledgerBy ws l [] = l
 ledgerBy ws l (call ∷ calls) = ledgerBy (perform ws call .left) (enter (length ws) l call .left) calls
 
@@ -84,16 +86,22 @@ pub record Kept (turns : List Turn) : Type 0 where  -- what holds of a run
   pub bound : Each Bound turns
   pub missed : Missed turns
 
-abbrev pub WritesTurns : List ℕ → List Turn → Step → Type 0  -- SPECIFICATION 9.6: a replay writes number and sum of each of its turns; the other words stay
-WritesTurns ws turns (once call) = Unit {0}
-WritesTurns ws turns (replayed trace day answers) = replay ws trace day answers .answers ≡ withAnswers (map (λ t. t .book) turns) answers
+pub record ReplayTurns (ws : List ℕ) (turns : List Turn) (trace : List ℕ) (day : ℕ) (answers : List ℕ) : Type 0 where  -- SPECIFICATION 9.6, a replay
+  -- its turns are the calls of the found day's records; a refused one has none
+  pub calls : map (λ t. t .call) turns ≡ cond (eqb (replay ws trace day answers .reply .number) 0) (map callOf (recordsOf (foundDay trace day))) []
+  -- it writes the number and the sum of each of its turns; the other words stay
+  pub writes : replay ws trace day answers .answers ≡ withAnswers (map (λ t. t .book) turns) answers
 
-abbrev pub EachWrites : List ℕ → Ledger → List Step → Type 0  -- SPECIFICATION 9.6: each replay of a run does
-EachWrites ws l [] = Unit {0}
-EachWrites ws l (step ∷ steps) = WritesTurns ws (runCalls ws l (callsOf step)) step × EachWrites (leaves ws step) (ledgerBy ws l (callsOf step)) steps
+abbrev pub AsTurns : List ℕ → List Turn → Step → Type 0  -- SPECIFICATION 9.6: said of replays alone
+AsTurns ws turns (once call) = Unit {0}
+AsTurns ws turns (replayed trace day answers) = ReplayTurns ws turns trace day answers
+
+abbrev pub EachAsTurns : List ℕ → Ledger → List Step → Type 0  -- SPECIFICATION 9.6: of each replay of a run
+EachAsTurns ws l [] = Unit {0}
+EachAsTurns ws l (step ∷ steps) = AsTurns ws (runCalls ws l (callsOf step)) step × EachAsTurns (leaves ws step) (ledgerBy ws l (callsOf step)) steps
 
 unfoldable pub Claim : Type 0  -- SPECIFICATION 9.5: for every list of calls and replays, from the words that an accepted make left on any words, and from its ledger
 Claim = (before : List ℕ) (k n m g : ℕ) → perform before (Make k n m g) .reply .number ≡ 0 → (steps : List Step) →
     let ws = perform before (Make k n m g) .left in
     let l = ledgerOf (shaped k n m g) 0 [] in
-    Kept (run ws l steps) × EachWrites ws l steps
+    Kept (run ws l steps) × EachAsTurns ws l steps

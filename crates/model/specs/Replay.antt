@@ -10,22 +10,22 @@ use Rattle.model.specs.Words.{join}
 use Rattle.model.specs.Calls.{firstOf, perform}
 use Rattle.model.specs.Trace.{dayPart, recordsOf, callOf, dayRefusals}
 
-abbrev pub leftBy : List ℕ → List Call → List ℕ  -- the words that calls leave, one after another
+abbrev pub leftBy : List ℕ → List Call → List ℕ  -- SPECIFICATION 17.1: the words that calls leave, one after another
 leftBy ws [] = ws
 leftBy ws (call ∷ calls) = leftBy (perform ws call .left) calls
 
-abbrev pub repliesTo : List ℕ → List Call → List Reply  -- what they are answered
+abbrev pub repliesTo : List ℕ → List Call → List Reply  -- SPECIFICATION 17.1: the replies to them
 repliesTo ws [] = []
 repliesTo ws (call ∷ calls) = perform ws call .reply ∷ repliesTo (perform ws call .left) calls
 
 abbrev pub answerWords : ℕ  -- SPECIFICATION 17.1: the words of an answer
 answerWords = 2
 
-abbrev pub answerOf : Reply → List ℕ  -- SPECIFICATION 17.1: the number of the refusal or 0, the sum or 0
-answerOf r = r .number ∷ getD (r .values) 0 0 ∷ []
+abbrev pub answerPart : Reply → List ℕ  -- SPECIFICATION 17.1: the number of the refusal or 0, the sum or 0
+answerPart r = r .number ∷ getD (r .values) 0 0 ∷ []
 
 abbrev pub withAnswers : List Reply → List ℕ → List ℕ  -- SPECIFICATION 17.1: the answers to these replies, and after them the words that were there
-withAnswers replies before = let answers = join (map answerOf replies) in answers ++ drop (length answers) before
+withAnswers replies before = let answers = join (map answerPart replies) in answers ++ drop (length answers) before
 
 abbrev pub replayRefusals : List ℕ → ℕ → ℕ → List (Bool × ℕ)  -- SPECIFICATION 17.2: those of finding the day, then room for fewer answers than records
 replayRefusals trace day room = dayRefusals trace day ++ (ltb room (answerWords * length (recordsOf (dayPart trace day))), 15) ∷ []

@@ -20,7 +20,7 @@ pub enum Refusal {
     Back, // The new clock is below the clock.
     Block, // A block is unsound.
     Full, // The interval has no room for the volume.
-    Trace, // The trace breaks its layout.
+    Trace, // The trace is unsound: its layout, or a record of any of its days.
     Day, // The trace has no such day.
     Room, // The answers need more words.
 }

@@ -1,7 +1,7 @@
 -- The sum of an answered question fits a word, on words of any content. Rests on what the check of a block gives.
 use mathlib.Core.Path.{_≡_, refl}
 use mathlib.Core.List.{List}
-use Prim.Native.Nat.{ℕ, _+_, _%_, _^_, _≤_, _<_}
+use Prim.Native.Nat.{ℕ, _%_, _^_, _≤_, _<_}
 use native.Mathlib.Omega.{arith}
 use lib.ListN.{getD}
 use Rattle.shape.specs.declared.Shape.{Shape}
@@ -9,12 +9,12 @@ use Rattle.model.specs.declared.Call.{Call}
 use Rattle.model.specs.declared.Call.the-variants.{Make, Clock, Delivery, Query}
 use Rattle.model.specs.Block.{interval, offsetOf, opening, sumFrom, serving, servingIndex, answer, windowSum}
 use Rattle.model.specs.Words.{shapeOf, clockOf, blockPart, decodeHalf, decodeBlock}
-use Rattle.model.specs.Calls.{Outcome, blockAt, firstOf, refusals, bookView, accept, perform}
+use Rattle.model.specs.Calls.{Outcome, firstOf, refusals, bookView, accept, perform}
 use Rattle.laws.specs.Cond.{by-eq}
 use Rattle.laws.specs.Proper.{Whole}
 use Rattle.laws.specs.BookWords.{soundHead-limits, length-blockPart}
 use Rattle.laws.specs.Refusals.{accepted-query}
-use Rattle.block.specs.Steps.{levelAt, index-serves, total-small, sum-small, answer-decode}
+use Rattle.block.specs.Steps.{index-serves, total-small, sum-small, answer-decode}
 
 module _ (s : Shape) (ws : List ℕ) (w : Whole s ws) where
   -- a half's total at most, from the serving level, and the total of the other half

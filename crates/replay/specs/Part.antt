@@ -1,7 +1,7 @@
 -- A replay of a day that was found: the part of a replay that follows the refusals of finding it. Assumes nothing.
 use mathlib.Core.Bool.{Bool, true, false, cond, not}
 use mathlib.Core.Path.{_≡_, refl}
-use mathlib.Core.List.{List, [], map}
+use mathlib.Core.List.{List, [], _∷_, _++_, map}
 use Prim.Native.Nat.{ℕ, zero, suc, _*_, _/_, _≤_, _<_}
 use native.Mathlib.Omega.{arith}
 use lib.Dec.{ltb, eqb}
@@ -12,6 +12,7 @@ use Rattle.model.specs.declared.Call.{Call}
 use Rattle.model.specs.Block.{upFrom}
 use Rattle.model.specs.Calls.{firstOf}
 use Rattle.model.specs.Trace.{recordWords, recordAt, recordsOf, callOf, dayCount, dayPart, soundTrace, dayRefusals}
+use Rattle.trace.specs.TraceLaws.{dayRefusal}
 use Rattle.model.specs.Replay.{leftBy, repliesTo, answerWords, withAnswers, replayRefusals, replayCalls, Replayed, replay}
 
 -- the calls of a day's words
@@ -43,15 +44,18 @@ module _ (ws day answers : List ℕ) where
   unfolding replayPart
   part-played h = rw (le-ltb (length answers) (answerWords * length (recordsOf day)) h)
 
-module _ (ws trace : List ℕ) (day : ℕ) (answers : List ℕ) where
-  abbrev number : ℕ
-  number = firstOf (dayRefusals trace day)
+-- a list of refusals that starts with one that holds
+first-append : (rs more : List (Bool × ℕ)) → (firstOf rs ≡ 0 → ⊥) → firstOf (rs ++ more) ≡ firstOf rs
+first-append [] more h = absurd (h refl)
+first-append ((true, n) ∷ rs) more h = refl
+first-append ((false, n) ∷ rs) more h = first-append rs more h
 
+module _ (ws trace : List ℕ) (day : ℕ) (answers : List ℕ) where
   abbrev small : Bool
   small = ltb (length answers) (answerWords * length (recordsOf (dayPart trace day)))
 
-  -- the refusals of finding the day come first
-  found-first : number ≡ 0 → firstOf (replayRefusals trace day (length answers)) ≡ cond small 15 0
+  -- where the day is found, only the room for the answers is left to test
+  found-first : dayRefusal trace day ≡ 0 → firstOf (replayRefusals trace day (length answers)) ≡ cond small 15 0
   found-first h = go (soundTrace trace) (ltb day (dayCount trace)) h
     where
       go : (s t : Bool) → _≡_ {A = ℕ} (cond (not s) 13 (cond (not t) 14 0)) 0 → _≡_ {A = ℕ} (cond (not s) 13 (cond (not t) 14 (cond small 15 0))) (cond small 15 0)
@@ -59,15 +63,7 @@ module _ (ws trace : List ℕ) (day : ℕ) (answers : List ℕ) where
       go true false e = absurd (omega arith)
       go false t e = absurd (omega arith)
 
-  refused-first : (number ≡ 0 → ⊥) → firstOf (replayRefusals trace day (length answers)) ≡ number
-  refused-first h = go (soundTrace trace) (ltb day (dayCount trace)) h
-    where
-      go : (s t : Bool) → (_≡_ {A = ℕ} (cond (not s) 13 (cond (not t) 14 0)) 0 → ⊥) → _≡_ {A = ℕ} (cond (not s) 13 (cond (not t) 14 (cond small 15 0))) (cond (not s) 13 (cond (not t) 14 0))
-      go true true e = absurd (e refl)
-      go true false e = refl
-      go false t e = refl
-
-  pub replay-found : number ≡ 0 → replay ws trace day answers ≡ replayPart ws (dayPart trace day) answers
+  pub replay-found : dayRefusal trace day ≡ 0 → replay ws trace day answers ≡ replayPart ws (dayPart trace day) answers
   unfolding replay replayCalls replayPart
   replay-found h = rw (found-first h) (go small)
     where
@@ -80,6 +76,6 @@ module _ (ws trace : List ℕ) (day : ℕ) (answers : List ℕ) where
       go true = refl
       go false = refl
 
-  pub replay-refused : (number ≡ 0 → ⊥) → replay ws trace day answers ≡ record { reply = refused number; book = ws; answers = answers }
+  pub replay-refused : (dayRefusal trace day ≡ 0 → ⊥) → replay ws trace day answers ≡ record { reply = refused (dayRefusal trace day); book = ws; answers = answers }
   unfolding replay replayCalls
-  replay-refused h = rw (refused-first h, ne-eqb number 0 h)
+  replay-refused h = rw (first-append (dayRefusals trace day) ((small, 15) ∷ []) h, ne-eqb (dayRefusal trace day) 0 h)

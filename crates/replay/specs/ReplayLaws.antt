@@ -12,7 +12,7 @@ use Rattle.model.specs.Block.{upFrom}
 use Rattle.model.specs.Words.{join}
 use Rattle.model.specs.Calls.{perform}
 use Rattle.model.specs.Trace.{recordWords, recordAt, callOf}
-use Rattle.model.specs.Replay.{leftBy, repliesTo, answerWords, answerOf, withAnswers}
+use Rattle.model.specs.Replay.{leftBy, repliesTo, answerWords, answerPart, withAnswers}
 use Rattle.replay.specs.Part.{dayCalls}
 
 -- two words written, one after the other
@@ -33,7 +33,7 @@ callsFrom day i = map callOf (upFrom (recordAt day) i (length day / recordWords 
 
 -- the words of the answers to calls
 abbrev answersTo : List ℕ → List Call → List ℕ
-answersTo ws calls = join (map answerOf (repliesTo ws calls))
+answersTo ws calls = join (map answerPart (repliesTo ws calls))
 
 callsFrom-start : (day : List ℕ) → callsFrom day 0 ≡ dayCalls day
 callsFrom-start day = ap (λ (c : ℕ). map callOf (upFrom (recordAt day) 0 c)) (sub-zero (length day / recordWords))

@@ -20,7 +20,7 @@ ghost use Rattle.model.specs.Replay.{answerWords, leftBy, repliesTo, withAnswer
 ghost use Rattle.replay.specs.Part.{replayPart};
 
 // The sum of an answered question, else 0.
-fn sum_of(answer: Answer) -> u32
+fn answer_sum(answer: Answer) -> u32
     requires { ⌜ getD (replyOf answer .values) 0 0 < 2 ^ 32 ⌝ }
     ensures { λ r. ⌜ r ≡ getD (replyOf answer .values) 0 0 ⌝ }
 {
@@ -39,7 +39,7 @@ fn play(book: &mut [u32], it: Record, answers: &mut [u32], to: usize)
 {
     let answer = summary::perform(book, call_of(it));
     answers[to] = codes::answer_number(answer);
-    answers[to + 1] = sum_of(answer);
+    answers[to + 1] = answer_sum(answer);
 }
 
 // The records of a day, one after another.
@@ -72,7 +72,7 @@ pub fn replay(book: &mut [u32], trace: &[u32], day: u32, answers: &mut [u32]) ->
     ensures { λ r. ⌜ record { reply = replyOf r; book = now (book .exit); answers = now (answers .exit) } ≡ replay (now (book .entry)) (now (trace .entry)) day (now (answers .entry)) ⌝ }
 {
     match judge_day(trace, day) {
-        Found::Day(pair) => replay_part(book, day_at(trace, pair), answers),
+        Found::At(pair) => replay_part(book, day_at(trace, pair), answers),
         Found::Refused(why) => Answer::Refused(why),
     }
 }

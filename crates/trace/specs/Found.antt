@@ -3,8 +3,8 @@ use mathlib.Core.List.{[], _∷_}
 use Rattle.shape.specs.Limits.{Reply, refused, accepted}
 use Rattle.model.specs.Reply.{numberOf}
 use Rattle.trace.specs.declared.Found.{Found}
-use Rattle.trace.specs.declared.Found.the-variants.{Day, Refused}
+use Rattle.trace.specs.declared.Found.the-variants.{At, Refused}
 
 unfoldable pub foundOf : Found → Reply  -- the number, 0 where there is such a day, then its start and length
-foundOf (Day pair) = accepted (pair .start ∷ pair .length ∷ [])
+foundOf (At pair) = accepted (pair .start ∷ pair .length ∷ [])
 foundOf (Refused r) = refused (numberOf r)

@@ -3,20 +3,25 @@ use mathlib.Core.Bool.{Bool, true, false, true≢false, cond, not, _&&_}
 use mathlib.Core.Path.{_≡_, refl, sym, ap, _∙_}
 use mathlib.Core.Logic.{⊎-elim}
 use mathlib.Core.List.{List, [], _∷_}
-use Prim.Native.Nat.{ℕ, zero, suc, _+_, _-_, _*_, _≤_, _<_}
-use native.Mathlib.Nat.{sub-zero}
+use Prim.Native.Nat.{ℕ, zero, suc, _+_, _-_, _≤_, _<_}
 use native.Mathlib.Numerals.{add-one}
 use native.Mathlib.Omega.{arith}
 use lib.Dec.{leb, ltb, eqb}
 use lib.ListN.{length, getD}
-use borrow.Author.Tests.{eq-eqb, ne-eqb, le-leb, lt-leb, leb-true, ltb-true, ltb-false, eqb-true, lt-ltb, le-ltb}
+use borrow.Author.Tests.{eq-eqb, ne-eqb, le-leb, lt-leb, ltb-true, eqb-true, lt-ltb, le-ltb}
 use Rattle.shape.specs.Limits.{Reply, refused, accepted}
 use Rattle.shape.specs.LimitsLaws.{both}
+use Rattle.model.specs.declared.Refusal.{Refusal}
+use Rattle.model.specs.Reply.{numberOf}
 use Rattle.model.specs.Sound.{allFrom}
 use Rattle.model.specs.Calls.{firstOf}
 use Rattle.model.specs.Trace.{maxDays, soundDay, dayCount, pairStart, dayStart, dayLength, dayPart, laid, soundTrace, dayRefusals, dayReply, foundDay}
-use Rattle.laws.specs.Cond.{lt-or-ge, and-false, by-eq}
-use Rattle.laws.specs.Parts.{allFrom-elim}
+use Rattle.laws.specs.Cond.{lt-or-ge, and-true, and-false, by-eq}
+use Rattle.days.specs.declared.Pair.{Pair}
+use Rattle.days.specs.Pair.{pairAt}
+use Rattle.trace.specs.declared.Found.{Found}
+use Rattle.trace.specs.declared.Found.the-variants.{At, Refused}
+use Rattle.trace.specs.Found.{foundOf}
 
 -- ---- days one after another
 
@@ -88,27 +93,39 @@ module _ (trace : List ℕ) where
       let next : i + suc c ≡ suc i + c = omega arith in
       rw next (laid-last c (at + dayLength trace i) (suc i) (p .1))
 
+  -- and such days are laid out
+  pub laid-intro : (c at i : ℕ) → dayStart trace i ≡ at
+      → ((j : ℕ) → i ≤ j → suc j < i + suc c → dayStart trace (suc j) ≡ dayStart trace j + dayLength trace j)
+      → dayStart trace (i + c) + dayLength trace (i + c) ≡ length trace → laid trace at i (suc c) ≡ true
+  laid-intro zero at i first next last =
+      let here : i + 0 ≡ i = omega arith in
+      and-true (eq-eqb (dayStart trace i) at first)
+      (eq-eqb (at + dayLength trace i) (length trace) (ap (λ (z : ℕ). z + dayLength trace i) (sym first) ∙ rw here at last))
+  laid-intro (suc c) at i first next last =
+      let there : i + suc c ≡ suc i + c = omega arith in
+      and-true (eq-eqb (dayStart trace i) at first)
+      (laid-intro c (at + dayLength trace i) (suc i)
+      (next i (omega arith) (omega arith) ∙ ap (λ (z : ℕ). z + dayLength trace i) first)
+      (λ j low high. next j (omega arith) (omega arith))
+      (rw there at last))
+
 -- ---- a sound trace
 
-pub record Laid (trace : List ℕ) : Type 0 where
+pub record SoundFacts (trace : List ℕ) : Type 0 where
   pub some : 0 < length trace
-  pub few : dayCount trace ≤ maxDays
   pub pairs : pairStart (dayCount trace) ≤ length trace
   pub days : laid trace (pairStart (dayCount trace)) 0 (dayCount trace) ≡ true
-  pub sound : allFrom (λ j. soundDay (dayPart trace j)) 0 (dayCount trace) ≡ true
 
-pub sound-laid : (trace : List ℕ) → soundTrace trace ≡ true → Laid trace
+pub sound-facts : (trace : List ℕ) → soundTrace trace ≡ true → SoundFacts trace
 unfolding soundTrace
-sound-laid trace e =
+sound-facts trace e =
     let p : (ltb 0 (length trace) ≡ true) × (_ ≡ true) = both e in
     let q : (leb (dayCount trace) maxDays ≡ true) × (_ ≡ true) = both (p .1) in
     let r : (laid trace (pairStart (dayCount trace)) 0 (dayCount trace) ≡ true) × (_ ≡ true) = both (q .1) in
     record {
       some = ltb-true 0 (length trace) (p .0);
-      few = leb-true (dayCount trace) maxDays (q .0);
       pairs = laid-within trace (dayCount trace) (pairStart (dayCount trace)) 0 (r .0);
       days = r .0;
-      sound = r .1;
     }
 
 -- what makes a trace unsound, by the code's tests
@@ -138,16 +155,13 @@ module _ (trace : List ℕ) where
 -- ---- what finding a day answers
 
 module _ (trace : List ℕ) (day : ℕ) where
-  abbrev pub dayNumber : ℕ
-  dayNumber = firstOf (dayRefusals trace day)
+  -- the number of the first refusal
+  abbrev pub dayRefusal : ℕ
+  dayRefusal = firstOf (dayRefusals trace day)
 
-  pub day-accepted : dayNumber ≡ 0 → dayReply trace day ≡ accepted (dayStart trace day ∷ dayLength trace day ∷ [])
+  day-accepted : dayRefusal ≡ 0 → dayReply trace day ≡ accepted (dayStart trace day ∷ dayLength trace day ∷ [])
   unfolding dayReply
-  day-accepted h = rw (eq-eqb dayNumber 0 h)
-
-  pub day-refused : (dayNumber ≡ 0 → ⊥) → dayReply trace day ≡ refused dayNumber
-  unfolding dayReply
-  day-refused h = rw (ne-eqb dayNumber 0 h)
+  day-accepted h = rw (eq-eqb dayRefusal 0 h)
 
   -- by the code's tests
   pub unsound-reply : soundTrace trace ≡ false → refused 13 ≡ dayReply trace day
@@ -163,19 +177,18 @@ module _ (trace : List ℕ) (day : ℕ) where
     unfolding dayReply
     found-reply h = rw (sound, lt-ltb day (dayCount trace) h)
 
-  day-number : dayReply trace day .number ≡ dayNumber
+  day-refusal : dayReply trace day .number ≡ dayRefusal
   unfolding dayReply
-  day-number = by-eq dayNumber 0 (λ (r : Reply). r .number ≡ dayNumber) (λ z. sym z) (λ _. refl)
+  day-refusal = by-eq dayRefusal 0 (λ (r : Reply). r .number ≡ dayRefusal) (λ z. sym z) (λ _. refl)
 
   -- the day is there, and lies in the trace
-  pub record Lies (start size : ℕ) : Type 0 where
-    pub number : dayNumber ≡ 0
-    pub starts : start ≡ dayStart trace day
-    pub sized : size ≡ dayLength trace day
-    pub within : start + size ≤ length trace
+  pub record InTrace (pair : Pair) : Type 0 where
+    pub number : dayRefusal ≡ 0
+    pub is : pair ≡ pairAt trace day
+    pub within : pair .start + pair .length ≤ length trace
 
-  number-sound : dayNumber ≡ 0 → (soundTrace trace ≡ true) × (day < dayCount trace)
-  number-sound h = go (soundTrace trace) (ltb day (dayCount trace)) refl refl h
+  refusal-none : dayRefusal ≡ 0 → (soundTrace trace ≡ true) × (day < dayCount trace)
+  refusal-none h = go (soundTrace trace) (ltb day (dayCount trace)) refl refl h
     where
       go : (s t : Bool) → soundTrace trace ≡ s → ltb day (dayCount trace) ≡ t → _≡_ {A = ℕ} (cond (not s) 13 (cond (not t) 14 0)) 0
           → (soundTrace trace ≡ true) × (day < dayCount trace)
@@ -183,28 +196,32 @@ module _ (trace : List ℕ) (day : ℕ) where
       go true false a b e = absurd (omega arith)
       go false t a b e = absurd (omega arith)
 
-  pub found-lies : (start size : ℕ) → accepted (start ∷ size ∷ []) ≡ dayReply trace day → Lies start size
-  found-lies start size e =
-      let none : dayNumber ≡ 0 = sym day-number ∙ sym (ap (λ (r : Reply). r .number) e) in
-      let f = number-sound none in
-      let known = e ∙ day-accepted none in
-      let starts : start ≡ dayStart trace day = ap (λ (r : Reply). getD (r .values) 0 0) known in
-      let sized : size ≡ dayLength trace day = ap (λ (r : Reply). getD (r .values) 1 0) known in
+  abbrev pairOf : Reply → Pair
+  pairOf r = record { start = getD (r .values) 0 0; length = getD (r .values) 1 0 }
+
+  -- what an answer of the code says of the day
+  pub at-in : (f : Found) (pair : Pair) → f ≡ At pair → foundOf f ≡ dayReply trace day → InTrace pair
+  unfolding foundOf
+  at-in f pair same e =
+      let told = ap foundOf (sym same) ∙ e in
+      let none : dayRefusal ≡ 0 = sym day-refusal ∙ sym (ap (λ (r : Reply). r .number) told) in
+      let f = refusal-none none in
+      let is : pair ≡ pairAt trace day = ap pairOf (told ∙ day-accepted none) in
       record {
         number = none;
-        starts = starts;
-        sized = sized;
-        within = omega (arith, starts, sized, laid-lies trace (dayCount trace) (pairStart (dayCount trace)) 0 day (sound-laid trace (f .0) .days) (omega arith) (omega (arith, f .1)));
+        is = is;
+        within = rw is (laid-lies trace (dayCount trace) (pairStart (dayCount trace)) 0 day (sound-facts trace (f .0) .days) (omega arith) (omega (arith, f .1)));
       }
 
-  pub found-number : (n : ℕ) → refused n ≡ dayReply trace day → n ≡ dayNumber
-  found-number n e = ap (λ (r : Reply). r .number) e ∙ day-number
+  pub refused-first : (f : Found) (why : Refusal) → f ≡ Refused why → foundOf f ≡ dayReply trace day → numberOf why ≡ dayRefusal
+  unfolding foundOf
+  refused-first f why same e = ap (λ (r : Reply). r .number) (ap foundOf (sym same) ∙ e) ∙ day-refusal
 
   -- the part that is found
-  pub part-found : dayNumber ≡ 0 → foundDay trace day ≡ dayPart trace day
+  pub part-found : dayRefusal ≡ 0 → foundDay trace day ≡ dayPart trace day
   unfolding foundDay
-  part-found h = rw (eq-eqb dayNumber 0 h)
+  part-found h = rw (eq-eqb dayRefusal 0 h)
 
-  pub part-none : (dayNumber ≡ 0 → ⊥) → foundDay trace day ≡ []
+  pub part-none : (dayRefusal ≡ 0 → ⊥) → foundDay trace day ≡ []
   unfolding foundDay
-  part-none h = rw (ne-eqb dayNumber 0 h)
+  part-none h = rw (ne-eqb dayRefusal 0 h)

@@ -16,11 +16,11 @@ ghost use Rattle.trace.specs.Found.{foundOf};
 
 // What finding a day answers.
 pub enum Found {
-    Day(Pair),
+    At(Pair),
     Refused(Refusal),
 }
 
-// Whether each day starts where the pairs or the day before end, and no word follows the last one.
+// Whether the days lie end to end, from the last pair to the end of the trace.
 fn is_laid(trace: &[u32], days: usize) -> bool
     requires { ⌜ pairStart days ≤ length (now trace) ⌝ }
     ensures { λ r. ⌜ r ≡ laid (now (trace .entry)) (pairStart days) 0 days ⌝ }
@@ -57,7 +57,7 @@ fn are_sound_days(trace: &[u32], days: usize) -> bool
     true
 }
 
-// Whether the trace keeps the layout.
+// Whether the trace is sound: its layout, and every record of every day.
 fn is_sound_trace(trace: &[u32]) -> bool
     ensures { λ r. ⌜ r ≡ soundTrace (now (trace .entry)) ⌝ }
 {
@@ -88,7 +88,7 @@ pub fn judge_day(trace: &[u32], day: u32) -> Found
     if trace[0] <= day {
         return Found::Refused(Refusal::Day);
     }
-    Found::Day(pair_at(trace, wide(day)))
+    Found::At(pair_at(trace, wide(day)))
 }
 
 // The words of a day, uncopied: a part of the caller's trace. It is empty where `judge_day` refuses.
@@ -96,7 +96,7 @@ pub fn find_day(trace: &[u32], day: u32) -> &[u32]
     ensures { λ r. ⌜ now r ≡ foundDay (now (trace .entry)) day ⌝ }
 {
     match judge_day(trace, day) {
-        Found::Day(pair) => day_at(trace, pair),
+        Found::At(pair) => day_at(trace, pair),
         Found::Refused(_) => &trace[..0],
     }
 }

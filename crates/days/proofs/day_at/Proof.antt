@@ -1,5 +1,4 @@
 -- The two words are the start and the length of the part.
-use native.Mathlib.Omega.{arith}
 use native.Mathlib.Nat.{add-sub-cancel-left}
 use borrow.Author.Needs.{needs}
 use Rattle.days.proofs.day_at.Statement.{statement}

@@ -25,8 +25,8 @@ mul-answers c = search needs
 slice-write-answers : tie.Need-slice-write-answers
 slice-write-answers c = search needs
 
-sum-of-requires : tie.Need-sum-of-requires
-sum-of-requires c κs =
+answer-sum-requires : tie.Need-answer-sum-requires
+answer-sum-requires c κs =
     let p = c .before .before .before in
     rw (ap (λ (o : Outcome (List ℕ)). getD (o .reply .values) 0 0) (p .perform .ensures)) (perform-fits (p .before .before .before .before .before .args .book .now) (p .before .call-of .result))
 
@@ -51,7 +51,7 @@ returns : tie.Need-returns
 returns c =
     let p = c .before .before .before .before in
     let e = p .perform .ensures ∙ ap (perform (p .before .before .before .before .before .args .book .now)) (p .before .call-of .ensures) in
-    (ap (λ (o : Outcome (List ℕ)). o .left) e, rw (c .before .answer-number .ensures, c .sum-of .ensures, ← e))
+    (ap (λ (o : Outcome (List ℕ)). o .left) e, rw (c .before .answer-number .ensures, c .answer-sum .ensures, ← e))
 
 pub play-spec : {M : Type 1} → statement M
 play-spec =
@@ -62,7 +62,7 @@ play-spec =
     answer-number-requires
     mul-answers
     slice-write-answers
-    sum-of-requires
+    answer-sum-requires
     add-answers
     mul-answers-2
     slice-write-answers-2

@@ -2,9 +2,8 @@
 use native.Mathlib.Omega.{arith}
 use borrow.Author.Needs.{needs}
 use mathlib.Core.Path.{_≡_, refl, _∙_}
-use Prim.Native.Nat.{_+_, _-_, _*_, _/_, _≤_}
+use Prim.Native.Nat.{_-_, _*_, _≤_}
 use lib.ListN.{length}
-use Rattle.model.specs.Trace.{recordWords, recordAt, recordsOf}
 use Rattle.model.specs.Replay.{answerWords}
 use Rattle.replay.specs.Part.{length-records}
 use Rattle.replay.specs.ReplayLaws.{Played, played-start, played-step, played-end}

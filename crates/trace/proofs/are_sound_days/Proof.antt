@@ -2,12 +2,12 @@
 use native.Mathlib.Omega.{arith}
 use borrow.Author.Needs.{needs}
 use borrow.Author.Tests.{not-true, not-false}
-use mathlib.Core.Bool.{Bool, true}
+use mathlib.Core.Bool.{Bool}
 use mathlib.Core.List.{List}
 use mathlib.Core.Path.{_≡_, refl, sym, ap, _∙_}
-use Prim.Native.Nat.{ℕ, _+_, _-_, _≤_}
+use Prim.Native.Nat.{ℕ, _-_, _≤_}
 use lib.ListN.{length, take, drop}
-use Rattle.model.specs.Trace.{soundDay, pairStart, dayStart, dayLength, dayPart}
+use Rattle.model.specs.Trace.{soundDay, pairStart, dayPart}
 use Rattle.laws.specs.AllFrom.{allLeft, allLeft-start, allLeft-step, allLeft-end}
 use Rattle.days.specs.declared.Pair.{Pair}
 use Rattle.trace.specs.TraceLaws.{laid-lies}

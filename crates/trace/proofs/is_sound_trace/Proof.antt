@@ -2,10 +2,8 @@
 use native.Mathlib.Omega.{arith}
 use borrow.Author.Needs.{needs}
 use borrow.Author.Tests.{not-true, not-false}
-use mathlib.Core.Bool.{true}
-use mathlib.Core.Path.{_≡_, sym, ap, subst, _∙_}
-use Prim.Native.Nat.{ℕ, _+_, _*_}
-use lib.ListN.{length}
+use mathlib.Core.Path.{_≡_, sym, ap, _∙_}
+use Prim.Native.Nat.{ℕ}
 use Rattle.model.specs.Sound.{allFrom}
 use Rattle.model.specs.Trace.{soundDay, dayCount, pairStart, dayPart, laid}
 use Rattle.trace.specs.TraceLaws.{laid-past, unsound-none, unsound-many, unsound-layout, sound-days}

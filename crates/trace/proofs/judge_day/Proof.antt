@@ -5,13 +5,12 @@ use borrow.Author.Tests.{not-true, not-false}
 use mathlib.Core.Bool.{true}
 use mathlib.Core.List.{[], _∷_}
 use mathlib.Core.Path.{_≡_, sym, ap, _∙_}
-use Prim.Native.Nat.{ℕ}
 use Rattle.shape.specs.Limits.{accepted}
-use Rattle.model.specs.Trace.{dayStart, dayLength, soundTrace}
+use Rattle.model.specs.Trace.{soundTrace}
 use Rattle.days.specs.declared.Pair.{Pair}
 use Rattle.days.specs.Pair.{pairAt}
 use Rattle.trace.specs.Found.{foundOf}
-use Rattle.trace.specs.TraceLaws.{sound-laid, unsound-reply, absent-reply, found-reply}
+use Rattle.trace.specs.TraceLaws.{sound-facts, unsound-reply, absent-reply, found-reply}
 use Rattle.trace.proofs.judge_day.Statement.{statement}
 use Rattle.trace.proofs.judge_day.Tie as tie
 
@@ -29,7 +28,7 @@ returns c =
     unsound-reply (a .trace .now) (a .day) (sym (c .before .is-sound-trace .ensures) ∙ not-true _ (c .if1 .taken))
 
 shared-slice-read-if2 : tie.Need-shared-slice-read-if2
-shared-slice-read-if2 c = let s = sound-laid _ (sound (c .before)) in omega (arith, s .some)
+shared-slice-read-if2 c = let s = sound-facts _ (sound (c .before)) in omega (arith, s .some)
 
 returns-2 : tie.Need-returns-2
 unfolding foundOf
@@ -41,7 +40,7 @@ wide-requires : tie.Need-wide-requires
 wide-requires c κs = search needs
 
 pair-at-requires : tie.Need-pair-at-requires
-pair-at-requires c κs = let s = sound-laid _ (sound (c .before .before .before)) in omega (arith, s .pairs)
+pair-at-requires c κs = let s = sound-facts _ (sound (c .before .before .before)) in omega (arith, s .pairs)
 
 returns-3 : tie.Need-returns-3
 unfolding foundOf

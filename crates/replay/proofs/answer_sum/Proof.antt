@@ -2,8 +2,8 @@
 use native.Mathlib.Omega.{arith}
 use borrow.Author.Needs.{needs}
 use Rattle.model.specs.Reply.{replyOf}
-use Rattle.replay.proofs.sum_of.Statement.{statement}
-use Rattle.replay.proofs.sum_of.Tie as tie
+use Rattle.replay.proofs.answer_sum.Statement.{statement}
+use Rattle.replay.proofs.answer_sum.Tie as tie
 
 enum-told : tie.Need-enum-told
 enum-told c = search needs
@@ -30,7 +30,7 @@ returns-3 : tie.Need-returns-3
 unfolding replyOf
 returns-3 c = search needs
 
-pub sum-of-spec : {M : Type 1} → statement M
-sum-of-spec =
+pub answer-sum-spec : {M : Type 1} → statement M
+answer-sum-spec =
     tie.close
     (tie.spec enum-told enum-known-answer cast-result enum-told-2 returns returns-2 returns-3)

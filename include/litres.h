@@ -26,7 +26,8 @@
  * A block of words for each grade follows. There is no pointer in the book, so a copy of its words
  * is a book as well: a program may store them, and load them on a processor of the same byte order.
  *
- * A trace is an array of 32-bit words with recorded days, numbered from 0. It starts with
+ * A trace is an array of 32-bit words in the processor's byte order. It holds recorded days, which
+ * are numbered from 0, and starts with
  *   word 0                 the count of days, 0 to LITRES_MAX_DAYS
  *   words 1 + 2d, 2 + 2d   offset and length of day d, both in words; offsets count from word 0
  * and then has the days, one after another. The first day starts right after the pairs, each other
@@ -35,8 +36,9 @@
  *   LITRES_KIND_CLOCK,    clock, 0,      0
  *   LITRES_KIND_DELIVERY, grade, stamp,  volume
  *   LITRES_KIND_QUERY,    grade, window, 0
- * Another kind, or another word than 0 where a 0 stands here, is no trace. The numbers of a record
- * may be any: a wrong one is refused when the record is run. There is no pointer in a trace.
+ * Another kind, or another word than 0 where a 0 stands here, makes the whole trace unsound: it is
+ * refused 13. The numbers of a record may be any: a wrong one is refused when the record is run.
+ * There is no pointer in a trace.
  *
  * A call gets its words as a pointer and a count: `book` points to `len` words, `trace` to
  * `trace_len`, `answers` to `answers_len`. The caller must meet these conditions for each of them:
@@ -155,9 +157,9 @@ uint32_t litres_day(const uint32_t *trace, size_t trace_len, uint32_t day, size_
  * Runs the records of a day one after another, each exactly as its own call on the book, and writes
  * LITRES_ANSWER_WORDS words for each to `answers`: 0 or the number of its refusal, then the sum of
  * an answered question or 0. A refused record does not stop the ones after it. A book that is
- * damaged or of another length is no reason to refuse the replay: each record answers as its call
- * would, by 2, 7 or 11. Words of `answers` past those of the last record are left. An empty day
- * needs no answer words.
+ * damaged or of another length is no reason to refuse the replay: each record is answered as its
+ * own call would be, and where that call meets the damage, 2, 7 or 11 stands in its answer. Words of
+ * `answers` past those of the last record are left. An empty day needs no answer words.
  * Refused, in this order: 13 (any record of any day counts), 14, 15. Then no record is run.
  */
 uint32_t litres_replay(uint32_t *book, size_t len, const uint32_t *trace, size_t trace_len,

@@ -136,6 +136,9 @@ fn accepted(number: u32) -> Result<(), Refused> {
 #[cfg(test)]
 mod tests {
     use super::archive;
+    use draw::book::Book;
+    use draw::random::Random;
+    use draw::trace::{day, Drawn};
 
     /// The safe call cannot see this, a C program can.
     #[test]
@@ -149,7 +152,8 @@ mod tests {
         }
     }
 
-    /// The place of a day in a trace of so many of these words, as C gets it.
+    /// What C gets for a day: number, start and length. The variables hold something else before, so
+    /// that it shows if one is not written.
     fn place(trace: &[u32], day: u32) -> (u32, usize, usize) {
         let (mut start, mut length) = (123, 456);
         let (words, len) = (trace.as_ptr(), trace.len());
@@ -168,5 +172,34 @@ mod tests {
         for len in 0..trace.len() {
             assert_eq!(place(&trace[..len], 1), (13, 0, 0), "{len}");
         }
+    }
+
+    /// The safe call drops the place of a refused day, so no comparison through it would see a wrong one.
+    #[test]
+    fn places_of_drawn_days() {
+        let random = &mut Random::new(1);
+        let (mut found, mut broken, mut missing) = (0, 0, 0);
+        for index in 0..4_000 {
+            let Book { shape, words, .. } = Book::draw(random, index);
+            let drawn = Drawn::draw(random, shape, &words);
+            let (trace, day) = (&drawn.words[..], day(random, drawn.count()));
+            let (number, start, length) = place(trace, day);
+            match reference::replay::find_day(trace, day) {
+                Ok(part) => {
+                    assert_eq!(number, 0, "day {day} of {trace:?}");
+                    let same = std::ptr::eq(part, &trace[start..start + length]);
+                    assert!(same, "day {day} of {trace:?}: {start}, {length}");
+                    found += 1;
+                }
+                Err(refused) => {
+                    let expected = (refused, 0, 0);
+                    assert_eq!((number, start, length), expected, "day {day} of {trace:?}");
+                    broken += usize::from(refused == 13);
+                    missing += usize::from(refused == 14);
+                }
+            }
+        }
+        let met = [found, broken, missing];
+        assert!(met.iter().all(|count| *count > 300), "{met:?}");
     }
 }

@@ -1,6 +1,8 @@
 //! One book, asked by both sides in turn. What a replay is lent has other words around it, and the answer
-//! words hold something before, so that each word that is written or left shows.
+//! words hold something before, so that each word that is written or left shows. The trace is lent to be
+//! read only: no stand-in in safe Rust can change it, so that test is for the archive's machine code alone.
 
+use std::hint::black_box;
 use std::ops::Range;
 
 use books::pair::{Pair, WordDifference};
@@ -13,7 +15,7 @@ use crate::implementation::{Implementation, Lent};
 
 /// Words past the book, for replays that are lent more than it has.
 pub const TAIL: usize = 24;
-/// Words around the answers.
+/// Words around the answers, and around the trace.
 const MARGIN: usize = 5;
 
 /// The calls of an accepted replay with their answers, or the number of its refusal.
@@ -74,10 +76,11 @@ impl Desk {
         implementation: &impl Implementation,
         asked: Asked,
     ) -> Result<Outcome, Box<Difference>> {
-        let Asked {
-            trace, day, room, ..
-        } = asked;
-        let kept = trace.to_vec();
+        let Asked { day, room, .. } = asked;
+        let around = self.around(asked.trace);
+        let kept = around.clone();
+        let trace = &around[MARGIN..MARGIN + asked.trace.len()];
+        let asked = Asked { trace, ..asked };
         check_part(implementation, asked)?;
         let before = Side {
             book: self.words.clone(),
@@ -96,7 +99,9 @@ impl Desk {
         if let Some((of, word)) = self.first_word(&before, &ours, &theirs) {
             return Err(asked.difference(What::Replayed(of, word)));
         }
-        if let Some(word) = WordDifference::first(&kept, &kept, trace, 0) {
+        // The compiler may take words that are lent for reading as unchanged; so it has to read them again.
+        let left = black_box(&around);
+        if let Some(word) = WordDifference::first(&kept, &kept, left, MARGIN) {
             return Err(asked.difference(What::Replayed(Of::Trace, word)));
         }
         let calls = replay::calls(trace, day, room);
@@ -116,6 +121,12 @@ impl Desk {
     fn answers(&mut self, room: usize) -> Vec<u32> {
         let words = 0..room + 2 * MARGIN;
         words.map(|_| self.random.word() | 1 << 31).collect()
+    }
+
+    /// The trace with other words around it.
+    fn around(&mut self, trace: &[u32]) -> Vec<u32> {
+        let mut margin = || [(); MARGIN].map(|()| self.random.word());
+        [&margin()[..], trace, &margin()].concat()
     }
 
     /// What a replay is lent of a side.

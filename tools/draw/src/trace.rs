@@ -5,7 +5,7 @@ pub mod damage;
 pub mod met;
 
 use reference::calls::perform;
-use reference::replay::{find_day, ANSWER_WORDS};
+use reference::replay::ANSWER_WORDS;
 use reference::shape::Shape;
 use reference::trace::{self, lay_out, Record, RECORD_WORDS};
 
@@ -142,7 +142,8 @@ fn any_numbers(random: &mut Random, record: Record) -> Record {
     let mut other = record;
     for place in 1..RECORD_WORDS {
         let mut tried = other;
-        tried[place] = random.word() | 1;
+        // Where the record has no number, only a 0 reads.
+        tried[place] = random.word();
         if trace::call(&tried).is_ok() {
             other = tried;
         }
@@ -179,7 +180,11 @@ pub fn day(random: &mut Random, count: u32) -> u32 {
     }
 }
 
-/// How many records a day has, none where it is not found.
+/// How many records a day has, whether they read or not. Where there is no such day it is as many as the
+/// last one has, so that a replay that is refused for another reason can lack room too. It is none where
+/// the days are not laid out.
 pub fn records(trace: &[u32], day: u32) -> usize {
-    find_day(trace, day).map_or(0, |part| part.len() / RECORD_WORDS)
+    let parts = trace::parts(trace).unwrap_or_default();
+    let part = parts.get(day as usize).or(parts.last());
+    part.map_or(0, |part| part.len() / RECORD_WORDS)
 }

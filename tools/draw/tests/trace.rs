@@ -124,7 +124,7 @@ fn kinds_of_found_days() {
 fn kinds_of_refusals() {
     assert_eq!(kinds(&[], 2, 4), ["day = count"]);
     assert_eq!(
-        kinds(&[], 3, 0),
+        kinds(&[], 3, 3),
         ["day = count + 1", "no such day, no room"]
     );
     assert_eq!(kinds(&[], 9, 4), ["a day far beyond"]);
@@ -137,13 +137,14 @@ fn kinds_of_refusals() {
     assert_eq!(kinds(&[(4, 9)], 1, 4), ["a length in the day asked for"]);
     assert_eq!(
         kinds(&[(4, 12)], 2, 0),
-        [
-            "an end in an earlier day",
-            "no trace, no such day",
-            "no trace, no room"
-        ]
+        ["an end in an earlier day", "no trace, no such day"]
     );
     assert_eq!(kinds(&[(9, 0)], 1, 4), ["a kind in the day asked for"]);
+    let short = ["a kind in the day asked for", "no trace, no room"];
+    assert_eq!(kinds(&[(9, 0)], 1, 3), short);
+    // An empty day needs no room, and one that is not laid out has no need that could be told.
+    assert_eq!(kinds(&[(9, 0)], 0, 0), ["a kind in a later day"]);
+    assert_eq!(kinds(&[(3, 9)], 1, 0), ["an offset in the day asked for"]);
     for (word, name) in [
         (7, "rest word 2 of a clock in a later day"),
         (8, "rest word 3 of a clock in a later day"),

@@ -148,12 +148,11 @@ pub fn parts(trace: &[u32]) -> Result<Vec<Range<usize>>, Fault> {
     if count > DAYS_MAX {
         return Err(Fault::Count(count));
     }
-    let pairs_end = COUNT_WORDS + PAIR_WORDS * count as usize;
-    if trace.len() < pairs_end {
-        return Err(Fault::Pairs(pairs_end));
+    let mut start = pairs_end(count as usize);
+    if trace.len() < start {
+        return Err(Fault::Pairs(start));
     }
     let mut days = Vec::new();
-    let mut start = pairs_end;
     for day in 0..count as usize {
         let [offset, length] = [0, 1].map(|word| trace[pair(day)][word]);
         let end = start as u64 + u64::from(length);
@@ -246,8 +245,12 @@ pub fn record(call: Call) -> Option<Record> {
 
 /// The words of a day's pair.
 pub fn pair(day: usize) -> Range<usize> {
-    let start = COUNT_WORDS + PAIR_WORDS * day;
-    start..start + PAIR_WORDS
+    pairs_end(day)..pairs_end(day + 1)
+}
+
+/// Where the pairs of so many days end, and the first day starts.
+pub fn pairs_end(count: usize) -> usize {
+    COUNT_WORDS + PAIR_WORDS * count
 }
 
 /// Days of any words, one after another behind their count and their pairs. It is a trace if they are
@@ -255,7 +258,7 @@ pub fn pair(day: usize) -> Range<usize> {
 pub fn lay_out<D: AsRef<[u32]>>(days: &[D]) -> Vec<u32> {
     let word = |number: usize| u32::try_from(number).expect("a trace of less than 2^32 words");
     let mut trace = vec![word(days.len())];
-    let mut start = COUNT_WORDS + PAIR_WORDS * days.len();
+    let mut start = pairs_end(days.len());
     for day in days {
         let length = day.as_ref().len();
         trace.extend([word(start), word(length)]);

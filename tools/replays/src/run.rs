@@ -109,7 +109,7 @@ impl<'a, I: Implementation> Table<'a, I> {
         Drawn::sound(self.random, self.shape, self.desk.book())
     }
 
-    /// Any day of any trace, some three times, mostly with all words of the book.
+    /// Any days of any trace, two to four of them, mostly with all words of the book.
     fn any_days(&mut self) -> Result<(), Box<Difference>> {
         self.summary.add_way("any days");
         let drawn = Drawn::draw(self.random, self.shape, self.desk.book());
@@ -127,12 +127,13 @@ impl<'a, I: Implementation> Table<'a, I> {
         Ok(())
     }
 
-    /// A whole week, one day after another.
+    /// A whole week, one day after another, and the day after the last, so that a trace of no days is asked
+    /// for one as well.
     fn all_days(&mut self) -> Result<(), Box<Difference>> {
         self.summary.add_way("all days in turn");
         let drawn = self.sound();
         self.summary.add_trace(&drawn);
-        for day in 0..drawn.count() {
+        for day in 0..=drawn.count() {
             let room = ANSWER_WORDS * trace::records(&drawn.words, day);
             self.ask(&drawn.words, day, self.desk.book().len(), room)?;
         }
@@ -151,7 +152,10 @@ impl<'a, I: Implementation> Table<'a, I> {
         self.summary.add_trace(&drawn);
         for place in 0..drawn.words.len() {
             let mut words = drawn.words.clone();
-            words[place] = changed(self.random, words[place]);
+            // Some changes leave some words as they are, such as half of 0.
+            while words[place] == drawn.words[place] {
+                words[place] = changed(self.random, words[place]);
+            }
             let day = trace::day(self.random, drawn.count());
             let room = ANSWER_WORDS * trace::records(&drawn.words, day);
             self.ask(&words, day, self.desk.book().len(), room)?;

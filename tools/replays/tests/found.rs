@@ -5,7 +5,7 @@ mod wrong;
 use std::ops::Range;
 
 use reference::replay::find_day;
-use reference::trace::days;
+use reference::trace::{days, RECORD_WORDS};
 use replays::difference::{Difference, What};
 use replays::implementation::Implementation;
 use wrong::{assert_equal, difference};
@@ -39,7 +39,8 @@ fn other_parts() {
     type Part = fn(&[u32], Range<usize>, u32) -> Range<usize>;
     let wrong: [Part; 3] = [
         |trace, part, _| part.start..trace.len(),
-        |_, part, _| part.start.min(part.end - part.len() / 4)..part.end - part.len() / 4,
+        // A word less for each record.
+        |_, part, _| part.start..part.end - part.len() / RECORD_WORDS,
         // An empty part, but not where the empty day stands.
         |_, part, _| if part.is_empty() { 0..0 } else { part },
     ];

@@ -1,45 +1,12 @@
 //! A usual run finds wrong refusals of a whole replay.
 
+mod judging;
 mod wrong;
 
-use std::ops::Range;
-
-use reference::replay::{calls, find_day, replay, ANSWER_WORDS};
+use judging::{assert_found, judged, Judging, Parts};
+use reference::replay::{calls, find_day, ANSWER_WORDS};
 use reference::trace::{self, days, parts, record_faults, Fault, CLOCK, RECORD_WORDS};
-use replays::implementation::{Implementation, Lent};
-use wrong::{assert_equal, difference};
-
-/// The second program, but this says whether a replay with so many answer words is refused, and under
-/// which number. A day that is found has room for all. What is accepted against the second program is
-/// not run, since the number tells the sides apart.
-struct Judging<J>(J);
-
-impl<J: Fn(&[u32], u32, usize) -> Result<(), u32>> Implementation for Judging<J> {
-    fn find_day<'t>(&self, trace: &'t [u32], day: u32) -> Result<&'t [u32], u32> {
-        (self.0)(trace, day, usize::MAX)?;
-        Ok(find_day(trace, day).unwrap_or(&trace[..0]))
-    }
-
-    fn replay(&self, lent: Lent) -> Result<(), u32> {
-        (self.0)(lent.trace, lent.day, lent.answers.len())?;
-        let _ = lent.by(replay);
-        Ok(())
-    }
-}
-
-type Parts = Result<Vec<Range<usize>>, Fault>;
-
-/// The three refusals in their order, over another reading of the trace.
-fn judged(parts: Parts, day: u32, room: usize) -> Result<(), u32> {
-    let parts = parts.map_err(|_| 13u32)?;
-    let part = parts.get(day as usize).ok_or(14u32)?;
-    let needed = part.len() / RECORD_WORDS * ANSWER_WORDS;
-    if room < needed {
-        Err(15)
-    } else {
-        Ok(())
-    }
-}
+use wrong::assert_equal;
 
 /// The days of a trace of which only these faults of records count.
 fn forgiving(trace: &[u32], counts: impl Fn(Fault) -> bool) -> Parts {
@@ -48,15 +15,9 @@ fn forgiving(trace: &[u32], counts: impl Fn(Fault) -> bool) -> Parts {
     fault.map_or(Ok(parts), Err)
 }
 
-fn assert_found(name: &str, judge: impl Fn(&[u32], u32, usize) -> Result<(), u32>) {
-    assert!(difference(&Judging(judge)).is_some(), "{name}");
-}
-
 #[test]
 fn nothing_changed() {
     let judge = |trace: &[u32], day, room| judged(days(trace), day, room);
-    assert_equal(&Judging(judge));
-    let judge = |trace: &[u32], day, room| judged(by(trace, Rules::RIGHT), day, room);
     assert_equal(&Judging(judge));
 }
 
@@ -145,131 +106,6 @@ fn other_kinds_accepted_or_known_ones_refused() {
     }
 }
 
-/// Which of the conditions on places are tested, and how many days there may be.
-#[derive(Clone, Copy)]
-struct Rules {
-    most: u32,
-    offsets: bool,
-    first_offset: bool,
-    whole_records: bool,
-    ends: bool,
-    last_end: bool,
-    wraps: bool,
-}
-
-impl Rules {
-    const RIGHT: Rules = Rules {
-        most: 64,
-        offsets: true,
-        first_offset: true,
-        whole_records: true,
-        ends: true,
-        last_end: true,
-        wraps: false,
-    };
-}
-
-/// The days by these rules, which need not lie within the trace; which fault is told does not matter.
-fn by(trace: &[u32], rules: Rules) -> Parts {
-    const NONE: Parts = Err(Fault::Empty);
-    let Some(&count) = trace.first() else {
-        return NONE;
-    };
-    let length = trace.len() as u64;
-    if count > rules.most || length < 1 + 2 * u64::from(count) {
-        return NONE;
-    }
-    let mut parts = Vec::new();
-    let mut at = 1 + 2 * u64::from(count);
-    for day in 0..count as usize {
-        let [offset, words] = [1, 2].map(|place| u64::from(trace[2 * day + place]));
-        let tested = if day == 0 {
-            rules.first_offset
-        } else {
-            rules.offsets
-        };
-        if (tested && offset != at) || (rules.whole_records && words % 4 != 0) {
-            return NONE;
-        }
-        let start = if tested { at } else { offset };
-        parts.push(start as usize..(start + words) as usize);
-        at = start + words;
-        if rules.wraps {
-            at %= 1 << 32;
-        } else if rules.ends && at > length {
-            return NONE;
-        }
-    }
-    if rules.last_end && at != length {
-        return NONE;
-    }
-    let reads = |part: &Range<usize>| {
-        let records = trace.get(part.clone()).unwrap_or(&[]);
-        let mut records = records.chunks_exact(RECORD_WORDS);
-        records.all(|record| trace::call(record).is_ok())
-    };
-    if parts.iter().all(reads) {
-        Ok(parts)
-    } else {
-        NONE
-    }
-}
-
-#[test]
-fn places_not_looked_at() {
-    let right = Rules::RIGHT;
-    let wrong = [
-        ("65 days", Rules { most: 65, ..right }),
-        ("63 days", Rules { most: 63, ..right }),
-        (
-            "any first offset",
-            Rules {
-                first_offset: false,
-                ..right
-            },
-        ),
-        (
-            "any other offset",
-            Rules {
-                offsets: false,
-                ..right
-            },
-        ),
-        (
-            "broken records",
-            Rules {
-                whole_records: false,
-                ..right
-            },
-        ),
-        (
-            "words missing",
-            Rules {
-                ends: false,
-                last_end: false,
-                ..right
-            },
-        ),
-        (
-            "a word too many",
-            Rules {
-                last_end: false,
-                ..right
-            },
-        ),
-        (
-            "ends modulo 2^32",
-            Rules {
-                wraps: true,
-                ..right
-            },
-        ),
-    ];
-    for (name, rules) in wrong {
-        assert_found(name, |trace, day, room| judged(by(trace, rules), day, room));
-    }
-}
-
 #[test]
 fn the_order_of_refusals() {
     assert_found("14 before 13", |trace, day, room| {
@@ -278,16 +114,25 @@ fn the_order_of_refusals() {
         }
         judged(days(trace), day, room)
     });
+    // The room is known from the pairs, before any record was read.
     assert_found("15 before 13", |trace, day, room| {
+        if judged(parts(trace), day, room) == Err(15) {
+            return Err(15);
+        }
+        judged(days(trace), day, room)
+    });
+    // With no such day, only another one can say how much room there has to be.
+    assert_found("15 before 14", |trace, day, room| {
         let found = judged(days(trace), day, room);
-        if found == Err(13) && room == 0 {
+        let last = trace.first().map_or(0, |count| count.saturating_sub(1));
+        if found == Err(14) && judged(days(trace), last, room) == Err(15) {
             return Err(15);
         }
         found
     });
-    assert_found("15 before 14", |trace, day, room| {
+    assert_found("15 before all for no words", |trace, day, room| {
         let found = judged(days(trace), day, room);
-        if found == Err(14) && room == 0 {
+        if found.is_err() && room == 0 {
             return Err(15);
         }
         found
@@ -314,7 +159,7 @@ fn other_days_and_other_rooms() {
         judged(days(trace), day, room.saturating_add(1))
     });
     assert_found("room for a word more", |trace, day, room| {
-        judged(days(trace), day, room.max(1) - 1)
+        judged(days(trace), day, room.saturating_sub(1))
     });
     assert_found("exactly as much room", |trace, day, room| {
         let needed = calls(trace, day, all)?.len() * ANSWER_WORDS;

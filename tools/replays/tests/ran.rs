@@ -6,6 +6,7 @@ use reference::calls::{perform, Answer, Call, Reply};
 use reference::replay::{answer_words, calls, replay, ANSWER_WORDS};
 use replays::difference::{Difference, Of, What};
 use replays::implementation::{Implementation, Lent};
+use replays::run::{run, Failure};
 use wrong::{assert_equal, difference};
 
 /// The second program, but this runs the calls of an accepted replay and writes the answers.
@@ -112,10 +113,26 @@ fn a_record_left_out() {
     });
     assert!(word_of(first).is_some());
     let last = ran(|book, calls, answers| {
-        let all = calls.len();
-        answering(book, &calls[..all.max(1) - 1], answers, right);
+        let last = calls.len().saturating_sub(1);
+        answering(book, &calls[..last], answers, right);
     });
     assert!(word_of(last).is_some());
+}
+
+/// The named day decides whether it is accepted, but the records of the next one are run.
+#[test]
+fn the_next_day_replayed() {
+    struct Next;
+    impl Implementation for Next {
+        fn replay(&self, lent: Lent) -> Result<(), u32> {
+            calls(lent.trace, lent.day, lent.answers.len())?;
+            lent.by(|book, trace, day, answers| {
+                let next = replay(book, trace, day + 1, answers);
+                next.or_else(|_| replay(book, trace, day, answers))
+            })
+        }
+    }
+    assert!(word_of(difference(&Next)).is_some());
 }
 
 #[test]
@@ -235,17 +252,16 @@ fn separate_calls_that_differ() {
             }
         }
     }
-    let found = difference(&Apart);
-    let apart = |found: &Difference| {
-        let by_call = matches!(found, Difference::Call(_));
-        let by_day = matches!(
-            found,
+    // A call of a list may differ earlier, so each trace is run by itself until one differs in this.
+    let mut each = (0..24_000).filter_map(|trace| run(&Apart, 1, trace..trace + 1).err());
+    let is_apart = |failure: Box<Failure>| {
+        matches!(
+            *failure.difference,
             Difference::Day {
-                what: What::Apart(..),
+                what: What::Apart(Of::Answers, _),
                 ..
             }
-        );
-        by_call || by_day
+        )
     };
-    assert!(found.is_some_and(|found| apart(&found)));
+    assert!(each.any(is_apart));
 }

@@ -1,6 +1,8 @@
 //! Damage to a trace: words that no recorder would write. Some of it leaves the trace sound.
 
-use reference::trace::{days, lay_out, pair, CLOCK, DAYS_MAX, DELIVERY, PAIR_WORDS, RECORD_WORDS};
+use reference::trace::{
+    days, lay_out, pair, pairs_end, CLOCK, DAYS_MAX, DELIVERY, PAIR_WORDS, RECORD_WORDS,
+};
 
 use crate::damage::{any_word, changed};
 use crate::random::Random;
@@ -78,7 +80,7 @@ fn two_days(random: &mut Random, trace: &[u32]) -> Option<(usize, usize)> {
 
 /// The first word of any record.
 fn any_record(random: &mut Random, trace: &[u32]) -> Option<usize> {
-    let start = offset(trace[0] as usize);
+    let start = pairs_end(trace[0] as usize);
     let records = (trace.len() - start) / RECORD_WORDS;
     (records > 0).then(|| start + RECORD_WORDS * random.below(records as u64) as usize)
 }
@@ -128,7 +130,7 @@ fn place(random: &mut Random, trace: &[u32], word: u32) -> u32 {
     match random.below(6) {
         0 => word.wrapping_add(record),
         1 => word.wrapping_sub(record),
-        2 => random.pick(&[0, trace.len() as u32, offset(trace[0] as usize) as u32]),
+        2 => random.pick(&[0, trace.len() as u32, pairs_end(trace[0] as usize) as u32]),
         3 => random.pick(&[u32::MAX, u32::MAX - 3, 1 << 31, 1 << 30]),
         _ => changed(random, word),
     }

@@ -3,7 +3,9 @@
 
 use reference::refusal;
 use reference::replay::{find_day, ANSWER_WORDS};
-use reference::trace::{days, pair, Fault, CLOCK, DAYS_MAX, RECORD_WORDS};
+use reference::trace::{days, pair, pairs_end, Fault, CLOCK, DAYS_MAX, RECORD_WORDS};
+
+use super::records;
 
 /// Faults of a trace as a whole.
 const WHOLE: [&str; 5] = [
@@ -24,7 +26,8 @@ const OF_A_DAY: [&str; 7] = [
     "rest word 3 of a question",
 ];
 const PLACES: [&str; 3] = ["the day asked for", "an earlier day", "a later day"];
-/// A later refusal holds as well.
+/// A later refusal holds as well. There is no room where the day that is laid out needs more answer words
+/// than there are, or the last day where there is no such day.
 const TWICE: [&str; 3] = [
     "no trace, no such day",
     "no trace, no room",
@@ -69,7 +72,7 @@ pub fn all() -> Vec<String> {
 pub fn kinds(trace: &[u32], day: u32, room: usize) -> Vec<String> {
     match find_day(trace, day) {
         Ok(part) => found(trace, day, part.len() / RECORD_WORDS, room),
-        Err(refusal::DAY) => strings(&no_day(trace[0], day, room)),
+        Err(refusal::DAY) => strings(&no_day(trace, day, room)),
         Err(_) => broken(trace, day, room),
     }
 }
@@ -93,11 +96,14 @@ fn broken(trace: &[u32], day: u32, room: usize) -> Vec<String> {
     }];
     if trace.first().is_none_or(|count| day >= *count) {
         kinds.push(TWICE[0].to_string());
-    }
-    if room == 0 {
+    } else if lacks_room(trace, day, room) {
         kinds.push(TWICE[1].to_string());
     }
     kinds
+}
+
+fn lacks_room(trace: &[u32], day: u32, room: usize) -> bool {
+    room < ANSWER_WORDS * records(trace, day)
 }
 
 fn fault_name(trace: &[u32], fault: Fault) -> &'static str {
@@ -112,7 +118,7 @@ fn fault_name(trace: &[u32], fault: Fault) -> &'static str {
         Fault::End { .. } => OF_A_DAY[2],
         Fault::Kind { .. } => OF_A_DAY[3],
         Fault::Rest { word, .. } => {
-            let first = pair(trace[0] as usize).start;
+            let first = pairs_end(trace[0] as usize);
             let place = (word - first) % RECORD_WORDS;
             match (trace[word - place], place) {
                 (CLOCK, 2) => OF_A_DAY[4],
@@ -123,14 +129,15 @@ fn fault_name(trace: &[u32], fault: Fault) -> &'static str {
     }
 }
 
-fn no_day(count: u32, day: u32, room: usize) -> Vec<&'static str> {
+fn no_day(trace: &[u32], day: u32, room: usize) -> Vec<&'static str> {
+    let count = trace[0];
     let mut kinds = vec![match day - count {
         _ if count == 0 => NO_DAY[0],
         0 => NO_DAY[1],
         1 => NO_DAY[2],
         _ => NO_DAY[3],
     }];
-    if room == 0 {
+    if lacks_room(trace, day, room) {
         kinds.push(TWICE[2]);
     }
     kinds

@@ -6,8 +6,9 @@ use options::Words;
 pub const USAGE: &str = "\
 usage: benchmark [--rounds N] [--twice]
 
-Times the calls of the static library beside hand-written Rust and prints the tables.
-  --rounds N  timed batches of each candidate for each row, at least 1 (601)
+Times the calls of the static library beside hand-written Rust, and the replay of a day beside its
+calls one by one, and prints the tables.
+  --rounds N  timed batches of each candidate for each row, at least 1 (601); a sixth as many days
   --twice     measures all a second time and tells how far the ratios moved";
 
 /// What the command line asks for.

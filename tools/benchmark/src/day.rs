@@ -20,7 +20,8 @@ use crate::report;
 const RECORDS: u64 = 1_000;
 /// One record in so many asks, over a short window, half an interval and a whole one in turn.
 const RECORDS_PER_QUERY: u64 = 50;
-/// A day takes as long as some hundred of the other batches, so there are fewer rounds.
+/// A day has as many calls as about 330 batches of the other tables have on this shape, so there are fewer
+/// rounds.
 const ROUNDS_PER_DAY: usize = 6;
 
 /// The replayed record may cost so much more than the separate call.
@@ -88,7 +89,7 @@ fn measure(grown: &[u32], calls: &[Call], round: usize) -> [f64; 2] {
             let (book, answers) = black_box((&mut book, &mut answers));
             litres::replay(book, black_box(&trace), 0, answers).expect("a day with room");
         } else {
-            separately(&CANDIDATES[0], &mut book, calls, &mut answers);
+            separately(&CANDIDATES[report::LIBRARY], &mut book, calls, &mut answers);
         }
         let elapsed = start.elapsed();
         time[timed] = elapsed.as_secs_f64() * 1e6 / calls.len() as f64;
@@ -133,20 +134,25 @@ pub fn table(times: &Times<2>) -> String {
 /// The target as a row of Markdown.
 pub fn bar(times: &Times<2>) -> String {
     let name = "replayed record: replay / separate calls";
-    report::bar(name, CLOSE, times.ratio(REPLAYED, SEPARATE))
+    // Two digits would round a ratio that misses the target to the target itself.
+    report::bar(name, CLOSE, times.ratio(REPLAYED, SEPARATE), 3)
 }
 
 /// How far the ratio of a second run is from that of the first.
 pub fn moved(first: &Times<2>, second: &Times<2>) -> String {
     let [was, is] = [first, second].map(|times| times.ratio(REPLAYED, SEPARATE));
-    let percent = 100.0 * (is / was - 1.0);
-    format!("A replayed record against its call: {was:.3}, then {is:.3}, moved {percent:+.1} %.")
+    let by = is / was - 1.0;
+    let (percent, verdict) = (100.0 * by, report::steady(by));
+    format!(
+        "A replayed record against its call: {was:.3}, then {is:.3}, moved {percent:+.1} %; {verdict}."
+    )
 }
 
 #[cfg(test)]
 mod tests {
-    use super::{day, measure, RECORDS};
+    use super::{bar, day, measure, moved, RECORDS};
     use crate::load::Load;
+    use crate::measure::Times;
     use reference::calls::Call;
     use reference::layout;
     use reference::shape::Shape;
@@ -164,5 +170,27 @@ mod tests {
         assert_eq!(count(|call| matches!(call, Call::Query { .. })), 20);
         let time = measure(&grown, &calls, 0);
         assert!(time.iter().all(|time| *time > 0.0));
+    }
+
+    #[test]
+    fn verdicts() {
+        let times = |replayed| Times::new(vec![[1.0, replayed]]);
+        let row = |measured, verdict| {
+            format!(
+                "| replayed record: replay / separate calls | 1.05 | {measured} | {verdict} |\n"
+            )
+        };
+        assert_eq!(bar(&times(1.049)), row("1.049", "met"));
+        assert_eq!(bar(&times(1.052)), row("1.052", "missed"));
+        let said = |second| moved(&times(1.0), &times(second));
+        let start = "A replayed record against its call: 1.000, then";
+        assert_eq!(
+            said(0.9),
+            format!("{start} 0.900, moved -10.0 %; at most 15 %: met.")
+        );
+        assert_eq!(
+            said(1.2),
+            format!("{start} 1.200, moved +20.0 %; at most 15 %: missed.")
+        );
     }
 }

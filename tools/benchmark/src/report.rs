@@ -10,7 +10,7 @@ use crate::measure::{self, measure, Times};
 use crate::task::Kind;
 
 /// The places of the static library, (a), (b), (c) and (c4) in the times.
-const LIBRARY: usize = 0;
+pub const LIBRARY: usize = 0;
 const PLAIN: usize = 1;
 const FAST: usize = 2;
 const READ: usize = 3;
@@ -196,16 +196,22 @@ pub fn bars(tables: &[Table]) -> String {
                 _ => continue,
             };
             let name = format!("{}: {ratio}", row.name);
-            text.push_str(&bar(&name, most, row.times.ratio(timed, other)));
+            text.push_str(&bar(&name, most, row.times.ratio(timed, other), 2));
         }
     }
     text
 }
 
-/// A target as a row of Markdown.
-pub fn bar(name: &str, most: f64, measured: f64) -> String {
+/// A target as a row of Markdown, with so many digits after the point.
+pub fn bar(name: &str, most: f64, measured: f64, digits: usize) -> String {
     let verdict = verdict(measured <= most);
-    format!("| {name} | {most} | {measured:.2} | {verdict} |\n")
+    format!("| {name} | {most} | {measured:.digits$} | {verdict} |\n")
+}
+
+/// Whether a ratio of a second run is near enough to the first run's, in words; `by` is how far it moved.
+pub fn steady(by: f64) -> String {
+    let verdict = verdict(by.abs() <= STEADY);
+    format!("at most {} %: {verdict}", 100.0 * STEADY)
 }
 
 fn verdict(met: bool) -> &'static str {
@@ -245,11 +251,11 @@ pub fn moved(first: &[Table], second: &[Table]) -> String {
             }
         }
     }
-    let verdict = verdict(most_on_site <= STEADY);
-    let [on_site, in_all, limit] = [most_on_site, most, STEADY].map(|part| 100.0 * part);
+    let verdict = steady(most_on_site);
+    let [on_site, in_all] = [most_on_site, most].map(|part| 100.0 * part);
     writeln!(
         text,
-        "\nThe largest move on the site shape is {on_site:.1} %; at most {limit} %: {verdict}. In all tables it is {in_all:.1} %."
+        "\nThe largest move on the site shape is {on_site:.1} %; {verdict}. In all tables it is {in_all:.1} %."
     )
     .unwrap();
     text

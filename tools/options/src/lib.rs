@@ -63,9 +63,9 @@ impl Words {
         left.try_into().map_err(too_many)
     }
 
-    /// What is left, however many words that are; none of them may be an option.
+    /// What is left, however many words that are; none of them may be an option. A `-` alone is none.
     pub fn rest(self) -> Result<Vec<OsString>, String> {
-        let is_option = |word: &&OsString| word.to_str().is_some_and(|word| word.starts_with('-'));
+        let is_option = |word: &&OsString| word.len() > 1 && word.as_encoded_bytes()[0] == b'-';
         match self.left.iter().find(is_option) {
             Some(unknown) => Err(format!("unknown or twice: {}", unknown.display())),
             None => Ok(self.left),
@@ -101,10 +101,15 @@ impl Trials {
         let count = words.number(many)?.unwrap_or(usual);
         let alone = words.number(one)?;
         let [] = words.operands([])?;
-        Ok(Trials {
-            seed,
-            numbers: alone.map_or(0..count, |number| number..number.saturating_add(1)),
-        })
+        let numbers = match alone {
+            None => 0..count,
+            // The range's end has to be a number too, else it would hold no trial and all would be well.
+            Some(number) => {
+                let end = number.checked_add(1);
+                number..end.ok_or(format!("{one} needs a number below {number}"))?
+            }
+        };
+        Ok(Trials { seed, numbers })
     }
 }
 

@@ -54,6 +54,10 @@ fn operands_are_counted() {
 fn words_that_nobody_took_are_told() {
     let trouble = |words: Words| words.operands(["PROGRAM"]).unwrap_err();
     assert_eq!(trouble(words("a --other")), "unknown or twice: --other");
+    assert_eq!(trouble(words("-o")), "unknown or twice: -o");
+    assert_eq!(trouble(words("a -1")), "unknown or twice: -1");
+    assert_eq!(words("-").operands(["FILE"]), Ok(["-".into()]));
+    assert_eq!(words("a-").operands(["FILE"]), Ok(["a-".into()]));
     let mut twice = words("--seed 1 a --seed 2");
     assert_eq!(twice.number("--seed"), Ok(Some(1)));
     assert_eq!(trouble(twice), "unknown or twice: --seed");
@@ -82,4 +86,8 @@ fn trials_are_all_or_one() {
     for wrong in ["--seed", "--books many", "--lines 3", "7"] {
         assert!(read(wrong).is_err(), "{wrong}");
     }
+    let (last, most) = (u64::MAX - 1, u64::MAX);
+    assert_eq!(read(&format!("--book {last}")), trials(1, last..most));
+    let trouble = format!("--book needs a number below {most}");
+    assert_eq!(read(&format!("--book {most}")), Err(trouble));
 }

@@ -3,15 +3,22 @@
 #include <stddef.h>
 #include <stdint.h>
 #include <stdio.h>
+#include <stdlib.h>
 
 #include "litres.h"
 
 enum { K = 17, N = 64, M = 16, G = 1, WORDS = 6606 };
-enum { MINUTE = 60, HOUR = 60 * MINUTE, DAY = 24 * HOUR };
+enum { MINUTE_TICKS = 60, HOUR_TICKS = 60 * MINUTE_TICKS, DAY_TICKS = 24 * HOUR_TICKS };
 enum { MON, TUE, WED, THU, FRI, SAT, SUN, DAYS };
 
-static const char *const names[DAYS] = {"Monday", "Tuesday",  "Wednesday", "Thursday",
-                                        "Friday", "Saturday", "Sunday"};
+/* A trace may name any tick, so not every day that is asked for is one of this week. */
+static const char *name(uint32_t day)
+{
+    static const char *const names[DAYS] = {"Monday", "Tuesday",  "Wednesday", "Thursday",
+                                            "Friday", "Saturday", "Sunday"};
+
+    return day < DAYS ? names[day] : "after the week";
+}
 
 /* What a controller noted: on which day, and which call with which numbers. */
 struct entry {
@@ -20,10 +27,10 @@ struct entry {
     uint32_t numbers[LITRES_RECORD_WORDS - 1];
 };
 
-#define AT(day, hour, minute) ((day) * DAY + (hour) * HOUR + (minute) * MINUTE)
+#define AT(day, hour, minute) ((day) * DAY_TICKS + (hour) * HOUR_TICKS + (minute) * MINUTE_TICKS)
 #define CLOCK(day, hour) {day, LITRES_KIND_CLOCK, {AT(day, hour, 0), 0, 0}}
 #define DELIVERY(day, stamp, decilitres) {day, LITRES_KIND_DELIVERY, {0, stamp, decilitres}}
-#define QUERY(day, hours) {day, LITRES_KIND_QUERY, {0, (hours) * HOUR, 0}}
+#define QUERY(day, hours) {day, LITRES_KIND_QUERY, {0, (hours) * HOUR_TICKS, 0}}
 
 static const struct entry entries[] = {
     CLOCK(MON, 8),
@@ -54,13 +61,11 @@ static const struct entry entries[] = {
     /* Closed on Sunday. */
 };
 
-enum { RECORDS = sizeof entries / sizeof entries[0] };
-enum { PAIRS_END = 1 + 2 * DAYS, TRACE_WORDS = PAIRS_END + RECORDS * LITRES_RECORD_WORDS };
+enum { COUNT = sizeof entries / sizeof entries[0] };
+enum { PAIRS_END = 1 + 2 * DAYS, TRACE_WORDS = PAIRS_END + COUNT * LITRES_RECORD_WORDS };
 
 static uint32_t book[WORDS];
 static uint32_t trace[TRACE_WORDS];
-/* Room for the answers of any of the days. */
-static uint32_t answers[RECORDS * LITRES_ANSWER_WORDS];
 
 /* Count, pairs, then the records: each day starts where the one before ends. */
 static void build_trace(void)
@@ -72,7 +77,7 @@ static void build_trace(void)
     for (uint32_t day = 0; day < DAYS; day++) {
         size_t start = used;
 
-        for (; next < RECORDS && entries[next].day == day; next++) {
+        for (; next < COUNT && entries[next].day == day; next++) {
             trace[used++] = entries[next].kind;
             for (size_t i = 0; i < LITRES_RECORD_WORDS - 1; i++)
                 trace[used++] = entries[next].numbers[i];
@@ -89,8 +94,8 @@ static void print_litres(uint32_t decilitres)
 
 static void print_time(uint32_t tick)
 {
-    printf("%s %02" PRIu32 ":%02" PRIu32, names[tick / DAY], tick % DAY / HOUR,
-           tick % HOUR / MINUTE);
+    printf("%s %02" PRIu32 ":%02" PRIu32, name(tick / DAY_TICKS), tick % DAY_TICKS / HOUR_TICKS,
+           tick % HOUR_TICKS / MINUTE_TICKS);
 }
 
 static void print_answer(const uint32_t *record, const uint32_t *answer)
@@ -109,7 +114,7 @@ static void print_answer(const uint32_t *record, const uint32_t *answer)
         print_time(record[2]);
         break;
     default:
-        printf("last %" PRIu32 " hours", record[2] / HOUR);
+        printf("last %" PRIu32 " hours", record[2] / HOUR_TICKS);
         if (number == LITRES_ACCEPTED) {
             printf(": ");
             print_litres(answer[1]);
@@ -120,24 +125,38 @@ static void print_answer(const uint32_t *record, const uint32_t *answer)
     printf("\n");
 }
 
-/* Finds a day, replays it and prints each record, which still stands in the trace, with its answer. */
+static int refused(uint32_t day, uint32_t number)
+{
+    printf("day %" PRIu32 ": refused %" PRIu32 ", %s\n", day, number, litres_text(number));
+    return 1;
+}
+
+/* Finds a day, replays it and prints each record, which is still in the trace, with its answer. */
 static int replay(uint32_t day)
 {
-    size_t start, length, records;
+    size_t start, length, records, room;
+    uint32_t *answers;
     uint32_t number = litres_day(trace, TRACE_WORDS, day, &start, &length);
 
-    if (number == LITRES_ACCEPTED)
-        number = litres_replay(book, WORDS, trace, TRACE_WORDS, day, answers,
-                               sizeof answers / sizeof answers[0]);
-    if (number != LITRES_ACCEPTED) {
-        printf("day %" PRIu32 ": refused %" PRIu32 ", %s\n", day, number, litres_text(number));
+    if (number != LITRES_ACCEPTED)
+        return refused(day, number);
+    records = length / LITRES_RECORD_WORDS;
+    room = records * LITRES_ANSWER_WORDS;
+    /* A word more, since the pointer must not be null, not even for the answers of an empty day. */
+    answers = (uint32_t *)malloc((room + 1) * sizeof *answers);
+    if (answers == NULL) {
+        printf("no memory\n");
         return 1;
     }
-    records = length / LITRES_RECORD_WORDS;
-    printf("%s: %lu records\n", names[day], (unsigned long)records);
-    for (size_t i = 0; i < records; i++)
-        print_answer(trace + start + i * LITRES_RECORD_WORDS, answers + i * LITRES_ANSWER_WORDS);
-    return 0;
+    number = litres_replay(book, WORDS, trace, TRACE_WORDS, day, answers, room);
+    if (number == LITRES_ACCEPTED) {
+        printf("%s: %lu records\n", name(day), (unsigned long)records);
+        for (size_t i = 0; i < records; i++)
+            print_answer(trace + start + i * LITRES_RECORD_WORDS,
+                         answers + i * LITRES_ANSWER_WORDS);
+    }
+    free(answers);
+    return number == LITRES_ACCEPTED ? 0 : refused(day, number);
 }
 
 int main(void)

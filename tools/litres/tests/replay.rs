@@ -1,4 +1,4 @@
-//! Traces through the archive: the example of document 02, request Two, and the refusals of a replay.
+//! Traces through the archive: the week of docs/SPECIFICATION.md, 18, and the refusals of a replay.
 
 use draw::trace::EXAMPLE;
 use litres::{
@@ -23,15 +23,18 @@ fn the_example() {
     assert_eq!(book, second);
 }
 
-/// The day lives as long as the trace, whatever became of the number that named it.
+/// The last day is given out of a function in which only the trace is borrowed, so it lives as long as the
+/// trace does; a copy of its words, or a borrow of the number, could not be.
+fn last_day(trace: &[u32]) -> &[u32] {
+    let day = trace[0] - 1;
+    let found = find_day(trace, day);
+    found.unwrap()
+}
+
 #[test]
 fn a_day_is_a_part_of_the_trace() {
     let trace = EXAMPLE.to_vec();
-    let found = {
-        let day = 1;
-        find_day(&trace, day).unwrap()
-    };
-    assert!(std::ptr::eq(found, &trace[5..]));
+    assert!(std::ptr::eq(last_day(&trace), &trace[5..]));
     assert!(std::ptr::eq(find_day(&trace, 0).unwrap(), &trace[5..5]));
     for day in [2, 64, 1 << 31, u32::MAX] {
         assert_eq!(find_day(&trace, day), Err(Refused::DAY));
@@ -136,6 +139,10 @@ fn most_days() {
             _ => Ok(&[][..]),
         };
         assert_eq!(find_day(&trace, 0), expected, "{count}");
-        assert_eq!(find_day(&trace, count.max(1) - 1), expected, "{count}");
+        assert_eq!(
+            find_day(&trace, count.saturating_sub(1)),
+            expected,
+            "{count}"
+        );
     }
 }

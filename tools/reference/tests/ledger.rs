@@ -118,9 +118,8 @@ impl Run {
         } else {
             assert_eq!(book, 0);
         }
-        let (k, n) = (u64::from(shape.k()), u64::from(shape.n()));
-        if n > k + 1 {
-            assert!(book.abs_diff(exact) * (n - k - 1) <= 2 * (k + 1) * exact);
+        assert!(self.ledger.admits(exact, book), "{exact}: {book}");
+        if shape.n() > shape.k() + 1 {
             self.seen.bounded += 1;
             self.seen.inexact += usize::from(book != exact);
             self.seen.above += usize::from(book > exact);

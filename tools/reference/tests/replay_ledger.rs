@@ -10,6 +10,9 @@ use reference::ledger::Ledger;
 use reference::replay::{answer_words, calls, replay, ANSWER_WORDS};
 use reference::shape::Shape;
 
+/// At most so many days of a trace are replayed, which is more than a week.
+const MOST_DAYS: u32 = 8;
+
 /// What a list has met, so that a test can tell that it tested something.
 #[derive(Default)]
 struct Seen {
@@ -53,10 +56,8 @@ impl List {
         } else {
             Drawn::sound(random, shape, &self.words)
         };
-        for day in 0..drawn
-            .count()
-            .min(trace::records(&drawn.words, 0) as u32 + 3)
-        {
+        // The count of a damaged trace may be any number, and of 64 days the first will do.
+        for day in 0..drawn.count().min(MOST_DAYS) {
             let room = trace::room(&mut self.source.random, trace::records(&drawn.words, day));
             self.replay(&drawn.words, day, room);
         }
@@ -122,7 +123,7 @@ fn lists_of_calls_and_replays() {
     }
 }
 
-/// Long books of a few grades, where sums come from coarse levels.
+/// Makes are rare and an interval keeps much, so that books fill and sums come from coarse levels.
 #[test]
 fn replayed_sums_are_not_all_exact() {
     let mut inexact = 0;

@@ -5,7 +5,7 @@ mod wrong;
 
 use judging::{assert_found, judged, Judging, Parts};
 use reference::replay::{calls, find_day, ANSWER_WORDS};
-use reference::trace::{self, days, parts, record_faults, Fault, CLOCK, RECORD_WORDS};
+use reference::trace::{self, days, pair, parts, record_faults, Fault, CLOCK, RECORD_WORDS};
 use wrong::assert_equal;
 
 /// The days of a trace of which only these faults of records count.
@@ -126,6 +126,16 @@ fn the_order_of_refusals() {
         let found = judged(days(trace), day, room);
         let last = trace.first().map_or(0, |count| count.saturating_sub(1));
         if found == Err(14) && judged(days(trace), last, room) == Err(15) {
+            return Err(15);
+        }
+        found
+    });
+    // As SPECIFICATION 18.2 has it: words that are not a pair are read as the day's.
+    assert_found("15 before 14, past the pairs", |trace, day, room| {
+        let found = judged(days(trace), day, room);
+        let needed = |length: &u32| *length as usize / RECORD_WORDS * ANSWER_WORDS;
+        let length = trace.get(pair(day as usize).end - 1);
+        if found == Err(14) && length.is_some_and(|length| room < needed(length)) {
             return Err(15);
         }
         found

@@ -1,7 +1,7 @@
 //! From lines of the bench protocol to a trace.
 
 use reference::protocol::parse;
-use reference::trace::{lay_out, record, DAYS_MAX};
+use reference::trace::{lay_out, pairs_end, record, DAYS_MAX};
 
 /// The trace of these days, each a name and its lines; the error names the day and the line.
 pub fn make(days: &[(String, Vec<u8>)]) -> Result<Vec<u32>, String> {
@@ -12,7 +12,20 @@ pub fn make(days: &[(String, Vec<u8>)]) -> Result<Vec<u32>, String> {
         .iter()
         .map(|(name, text)| day(text).map_err(|trouble| format!("{name}, {trouble}")))
         .collect();
-    Ok(lay_out(&days?))
+    let days = days?;
+    let lengths: Vec<usize> = days.iter().map(Vec::len).collect();
+    check_lengths(&lengths)?;
+    Ok(lay_out(&days))
+}
+
+/// Whether days of so many words make a trace of less than 2^32, since the pairs have 32 bits for a place.
+pub fn check_lengths(days: &[usize]) -> Result<(), String> {
+    let end = |start: usize, day: &usize| start.saturating_add(*day);
+    let words = days.iter().fold(pairs_end(days.len()), end);
+    match u32::try_from(words) {
+        Ok(_) => Ok(()),
+        Err(_) => Err(format!("{words} words, at most {}", u32::MAX)),
+    }
 }
 
 /// The records of a day's lines. The last newline may be missing.

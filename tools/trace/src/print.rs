@@ -14,21 +14,22 @@ pub fn words(bytes: &[u8]) -> Result<Vec<u32>, String> {
     Ok(whole.iter().map(|word| u32::from_le_bytes(*word)).collect())
 }
 
+/// Why writing a line to a string cannot fail.
+const TAKES_ALL: &str = "a string takes every text";
+
 /// Each day's number, start and words, and its records as lines of the bench protocol; the error says
 /// where the layout is broken.
 pub fn print(trace: &[u32]) -> Result<String, String> {
     let days = days(trace).map_err(|fault| fault.to_string())?;
     let mut text = String::new();
-    writeln!(text, "days {}, words {}", days.len(), trace.len()).expect(MEMORY);
+    writeln!(text, "days {}, words {}", days.len(), trace.len()).expect(TAKES_ALL);
     for (number, part) in days.into_iter().enumerate() {
         let (start, words) = (part.start, part.len());
-        writeln!(text, "day {number}: start {start}, words {words}").expect(MEMORY);
+        writeln!(text, "day {number}: start {start}, words {words}").expect(TAKES_ALL);
         for record in trace[part].chunks(RECORD_WORDS) {
             let call = call(record).expect("a trace without a fault has records that read");
-            writeln!(text, "{}", line(call)).expect(MEMORY);
+            writeln!(text, "{}", line(call)).expect(TAKES_ALL);
         }
     }
     Ok(text)
 }
-
-const MEMORY: &str = "a string takes every text";

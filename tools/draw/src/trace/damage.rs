@@ -147,7 +147,8 @@ fn shift(trace: &mut [u32], from: usize, to: usize, by: u32) {
     add(&mut trace[length(to)], by.wrapping_neg());
 }
 
-/// By whole records the trace may stay sound, by single words two days are none.
+/// Where one day ends and the next starts is moved. By whole records the trace may stay sound; by single
+/// words, two days are no longer whole records.
 fn moved_boundary(random: &mut Random, trace: &mut [u32]) {
     if let Some((from, to)) = two_days(random, trace) {
         let by = random.between(1, 4);
@@ -156,11 +157,12 @@ fn moved_boundary(random: &mut Random, trace: &mut [u32]) {
     }
 }
 
-/// Whole records everywhere, and the last day ends with the trace, but a day before it ends far beyond.
+/// Every day is whole records and, modulo 2^32, starts where the one before ends; the last one ends with the
+/// trace. But before it a day ends far beyond the trace, or modulo 2^32 before its own start.
 fn wrapped_ends(random: &mut Random, trace: &mut [u32]) {
     if let Some((from, to)) = two_days(random, trace) {
         let any = random.word() & !3;
-        // A record more than the day has goes below 0.
+        // Of a record more than the day has, so that modulo 2^32 it ends a record before its start.
         let back = trace[length(from)] + RECORD_WORDS as u32;
         let by = random.pick(&[1 << 31, 1 << 30, any, back.wrapping_neg()]);
         shift(trace, from, to, by);

@@ -39,7 +39,8 @@ const NO_DAY: [&str; 4] = [
     "day = count + 1",
     "a day far beyond",
 ];
-const DAYS: [&str; 4] = [
+/// Which day is found.
+const WHICH: [&str; 4] = [
     "the first day",
     "a day between",
     "the last day",
@@ -63,7 +64,7 @@ pub fn all() -> Vec<String> {
         let at = move |place: &&str| format!("{fault} in {place}");
         PLACES.iter().map(at)
     });
-    let lists: [&[&str]; 5] = [&WHOLE, &TWICE, &NO_DAY, &DAYS, &ROOMS];
+    let lists: [&[&str]; 5] = [&WHOLE, &TWICE, &NO_DAY, &WHICH, &ROOMS];
     let names = lists.concat().into_iter().map(str::to_string);
     names.chain(placed).collect()
 }
@@ -152,7 +153,7 @@ fn found(trace: &[u32], day: u32, records: usize, room: usize) -> Vec<String> {
         day + 1 == count,
         records > 0 && day > 0 && is_empty(day - 1),
     ];
-    let met = DAYS.iter().zip(places).filter(|(_, holds)| *holds);
+    let met = WHICH.iter().zip(places).filter(|(_, holds)| *holds);
     let mut kinds: Vec<&str> = met.map(|(name, _)| *name).collect();
     kinds.push(room_name(records, room));
     strings(&kinds)

@@ -92,7 +92,7 @@
     X(10, LITRES_CLOCK_BACK, "the new clock is behind the clock")                                 \
     X(11, LITRES_BLOCK, "a grade's words are damaged")                                            \
     X(12, LITRES_FULL, "the interval has no room for the volume")                                 \
-    X(13, LITRES_TRACE, "the trace breaks its layout")                                            \
+    X(13, LITRES_TRACE, "the trace breaks its layout or has an unsound record")                   \
     X(14, LITRES_DAY, "the trace has no such day")                                                \
     X(15, LITRES_ROOM, "the answers need more words")
 

@@ -47,7 +47,7 @@ clockOnly clock = 1 ∷ clock ∷ 0 ∷ 0 ∷ []
 abbrev p₃Day : List ℕ  -- the calls up to P3 and the question of P4, as records
 p₃Day = clockOnly 3 ++ 2 ∷ 0 ∷ 0 ∷ 3 ∷ 2 ∷ 0 ∷ 3 ∷ 1 ∷ 2 ∷ 0 ∷ 1 ∷ 1 ∷ 3 ∷ 0 ∷ 2 ∷ 0 ∷ []
 
-abbrev week : List ℕ  -- an empty day, then the calls up to P3
+abbrev week : List ℕ  -- an empty day, then that one
 week = 2 ∷ 5 ∷ 0 ∷ 5 ∷ 20 ∷ p₃Day
 
 -- on a book just made, a replay that is refused: nothing is written
@@ -103,7 +103,8 @@ traces =
     -- 64 days, and no more
     ∷ accepting made₀ (days 64) 63 [] 129 [] [] []
     ∷ refusing (days 65) 0 [] 13
-    -- 13 comes before 14 and before 15, 14 before 15: `one (clockOnly 4)` has 1 and 4 where the pair of a second day would stand
+    -- 13 comes before 14 and before 15, 14 before 15: the last trace has 1 and 4 where the pair of a second day would stand, so 15 would hold
+    -- as well
     ∷ refusing (one (4 ∷ 0 ∷ 0 ∷ 0 ∷ [])) 1 [] 13
     ∷ refusing (one (4 ∷ 0 ∷ 0 ∷ 0 ∷ [])) 0 [] 13
     ∷ refusing (one (clockOnly 4)) 1 [] 14

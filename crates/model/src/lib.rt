@@ -1,5 +1,5 @@
-// A call with its numbers, which may be any; why it is refused (SPECIFICATION 6.2, in the order of the numbers 1 to 15); its answer; and a
-// record of a trace (SPECIFICATION 16.2).
+// A call with its numbers, which may be any; why a call, finding a day or a replay is refused (SPECIFICATION 6.2, in the order of the
+// numbers 1 to 15); the answer to a call; and a record of a trace (SPECIFICATION 16.2).
 pub enum Call {
     Make { k: u32, n: u32, m: u32, g: u32 },
     Clock { clock: u32 },

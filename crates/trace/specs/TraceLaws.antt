@@ -30,7 +30,7 @@ pub laid-past : (trace : List ℕ) (c at j : ℕ) → length trace < at → laid
 laid-past trace zero at j h = ne-eqb at (length trace) (λ e. omega arith)
 laid-past trace (suc c) at j h = and-false (eqb (dayStart trace j) at) (laid-past trace c (at + dayLength trace j) (suc j) (omega arith))
 
-pub laid-within : (trace : List ℕ) (c at j : ℕ) → laid trace at j c ≡ true → at ≤ length trace
+laid-within : (trace : List ℕ) (c at j : ℕ) → laid trace at j c ≡ true → at ≤ length trace
 laid-within trace c at j e = ⊎-elim (λ (l : length trace < at). absurd (true≢false (sym e ∙ laid-past trace c at j l))) (λ (g : at ≤ length trace). g) (lt-or-ge (length trace) at)
 
 -- what is left of the layout at day j

@@ -43,7 +43,7 @@ refusals! {
     10 CLOCK_BACK "the new clock is behind the clock";
     11 BLOCK "a grade's words are damaged";
     12 FULL "the interval has no room for the volume";
-    13 TRACE "the trace breaks its layout";
+    13 TRACE "the trace breaks its layout or has an unsound record";
     14 DAY "the trace has no such day";
     15 ROOM "the answers need more words";
 }

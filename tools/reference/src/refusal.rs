@@ -27,7 +27,7 @@ pub const CLOCK_BACK: u32 = 10;
 pub const BLOCK: u32 = 11;
 /// The interval cannot keep this volume as well.
 pub const FULL: u32 = 12;
-/// The trace breaks its layout.
+/// The trace breaks its layout or has an unsound record.
 pub const TRACE: u32 = 13;
 /// The trace has no such day.
 pub const DAY: u32 = 14;

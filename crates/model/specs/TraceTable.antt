@@ -47,7 +47,7 @@ clockOnly clock = 1 ∷ clock ∷ 0 ∷ 0 ∷ []
 abbrev p₃Day : List ℕ  -- the calls up to P3 and the question of P4, as records
 p₃Day = clockOnly 3 ++ 2 ∷ 0 ∷ 0 ∷ 3 ∷ 2 ∷ 0 ∷ 3 ∷ 1 ∷ 2 ∷ 0 ∷ 1 ∷ 1 ∷ 3 ∷ 0 ∷ 2 ∷ 0 ∷ []
 
-abbrev week : List ℕ  -- an empty day, then that one
+abbrev week : List ℕ  -- an empty day, then `p₃Day`
 week = 2 ∷ 5 ∷ 0 ∷ 5 ∷ 20 ∷ p₃Day
 
 -- on a book just made, a replay that is refused: nothing is written

@@ -1,6 +1,6 @@
 -- A level from 1 whose bucket of slot j spans offset x and takes v, and what is left to do once that bucket is split: the rest goes into the
 -- half that spans x, which is half as wide. Rests on the laws of one round.
-use mathlib.Core.Bool.{Bool, true, false, cond}
+use mathlib.Core.Bool.{cond}
 use mathlib.Core.List.{List, [], _∷_, _++_, append-assoc}
 use mathlib.Core.Path.{_≡_, refl, sym, ap, subst, _∙_}
 use Prim.Native.Nat.{ℕ, zero, suc, _+_, _-_, _/_, _^_, _≤_, _<_}
@@ -26,11 +26,6 @@ pub record Upper (n i : ℕ) : Type 0 where
   pub low : 0 < i
   pub high : i ≤ 24
   pub small : 2 ^ suc i < 2 ^ 32
-
--- whether a bucket stays whole
-pub record StaysWhole (width weight full : ℕ) (whole : Bool) : Type 0 where
-  pub stays : whole ≡ true → 1 < width → weight < full
-  pub goes : whole ≡ false → (1 < width) × (full ≤ weight)
 
 -- the bucket spans x, is not full if it is wider than 1, and its weight and v fit a word
 pub record Covers (i x v : ℕ) (b : Bucket) : Type 0 where
@@ -100,13 +95,13 @@ halved zero width power long = absurd (omega arith)
 halved (suc less) width power long = let e : suc less - 1 ≡ less = omega arith in rw e (omega (arith, pow-suc 2 less))
 
 -- the bucket of slot j was filled and split, and `rest` is what is left of v
-pub record Cut (n i x v j rest : ℕ) (ws ws′ : List ℕ) (up : ℕ) : Type 0 where
+pub record WasSplit (n i x v j rest : ℕ) (ws ws′ : List ℕ) (up : ℕ) : Type 0 where
   pub ready-was : Ready n i x v j ws
   pub long : 1 < slot ws j .width
   pub full : slot ws j .weight + v ≡ 2 ^ suc i + rest
   pub split : Becomes n i j (slot ws j ∷ []) (halves i (slot ws j)) ws ws′ up
 
-module _ {n i x v j rest : ℕ} {ws ws′ : List ℕ} {up : ℕ} (c : Cut n i x v j rest ws ws′ up) where
+module _ {n i x v j rest : ℕ} {ws ws′ : List ℕ} {up : ℕ} (c : WasSplit n i x v j rest ws ws′ up) where
   abbrev r : Ready n i x v j ws
   r = c .ready-was
 
@@ -189,8 +184,8 @@ module _ {n i x v j rest : ℕ} {ws ws′ : List ℕ} {up : ℕ} (c : Cut n i x 
       go (upper same none fits) = absurd (omega arith)
 
   -- the half that spans x was evicted, so the rest is ignored
-  pub given-up : x < b .offset + half → up ≡ 0 → ws′ ≡ encodeLevel n (insert n i x v (decodeLevel ws))
-  given-up h none = go cases
+  pub lower-evicted : x < b .offset + half → up ≡ 0 → ws′ ≡ encodeLevel n (insert n i x v (decodeLevel ws))
+  lower-evicted h none = go cases
     where
       go : Round n x lower higher (r .after) up left → ws′ ≡ encodeLevel n (insert n i x v (decodeLevel ws))
       go (both f before same place fits passed kept) = absurd (omega arith)

@@ -9,52 +9,88 @@ use shape::Shape;
 use words::long;
 use words::power;
 use words::wide;
+ghost use mathlib.Core.Bool.{true};
 ghost use mathlib.Core.Path.{_≡_};
-ghost use Prim.Native.Nat.{_+_, _*_, _≤_};
+ghost use Prim.Native.Nat.{_+_, _^_, _<_, _≤_};
 ghost use lib.ListN.{length, getD};
 ghost use Rattle.shape.specs.Layout.{slotStart};
 ghost use Rattle.model.specs.Level.{insert};
-ghost use Rattle.model.specs.Words.{decodeLevel, encodeLevel};
+ghost use Rattle.model.specs.Words.{slot, decodeLevel, encodeLevel};
 ghost use Rattle.laws.specs.Proper.{Insertable};
-ghost use Rattle.insert.specs.Ready.{Ready, StaysWhole};
+ghost use Rattle.insert.specs.Ready.{Ready};
+ghost use Rattle.insert.specs.Loop.{getsFull, Continues};
 ghost use Rattle.insert.specs.Entry.{At};
 
-// Whether a bucket of this width stays whole at this weight: a full one is split.
-fn stays_whole(width: u32, weight: u64, full: u64) -> bool
-    ensures { λ r. ⌜ StaysWhole width weight full r ⌝ }
-{
-    if width <= 1 {
-        return true;
-    }
-    weight < full
+// Where an insertion goes on after a split: what is left, and the slot of the half that spans the offset. If that half was evicted, the rest is
+// ignored.
+struct Onward {
+    rest: u64,
+    slot: usize,
+    evicted: bool,
 }
 
-// Level i from 1: inserts v at offset x into the bucket of slot j, which spans x. A full bucket is split, and the rest goes into the half
-// that spans x. If that half was evicted, the rest is ignored.
-fn pour(level: &mut [u32], n: usize, i: u8, x: u32, v: u64, j: usize)
+// Whether v more make the bucket of slot j full, so that it is split.
+fn gets_full(level: &[u32], i: u8, v: u64, j: usize) -> bool
+    requires { ⌜ (slotStart (j + 1) ≤ length (now level)) × (i ≤ 31) × (slot (now level) j .weight + v < 2 ^ 32) ⌝ }
+    ensures { λ r. ⌜ r ≡ getsFull i v (slot (now (level .entry)) j) ⌝ }
+{
+    let at = LEVEL_HEAD_LEN + SLOT_LEN * j;
+    if level[at + 1] <= 1 {
+        return false;
+    }
+    2 * long(power(i)) <= long(level[at + 2]) + v
+}
+
+// One round of an insertion: fills the bucket of slot j, which spans x, and splits it. The rest of v goes into the half that spans x. (Document
+// 01 says 'fill', 'halve' and 'given up' for fill, split and evicted.)
+fn split(level: &mut [u32], n: usize, i: u8, x: u32, v: u64, j: usize) -> Onward
+    requires { ⌜ Ready n i x v j (now level) × (getsFull i v (slot (now level) j) ≡ true) ⌝ }
+    ensures { λ r. ⌜ Continues n i x v j (now (level .entry)) (now (level .exit)) r ⌝ }
+{
+    let at = LEVEL_HEAD_LEN + SLOT_LEN * j;
+    let rest = long(level[at + 2]) + v - 2 * long(power(i));
+    let half = level[at + 1] / 2;
+    let middle = level[at] + half;
+    let up = split_at(level, n, i, j, half);
+    if middle <= x {
+        return Onward {
+            rest: rest,
+            slot: up,
+            evicted: false,
+        };
+    }
+    if up == 0 {
+        return Onward {
+            rest: rest,
+            slot: up,
+            evicted: true,
+        };
+    }
+    Onward {
+        rest: rest,
+        slot: up - 1,
+        evicted: false,
+    }
+}
+
+// Level i from 1: inserts v at offset x into the bucket of slot j, which spans x (document 01: to pour). As long as the bucket gets full it
+// is split, and the rest goes into the half that spans x. If that half was evicted, the rest is ignored. A debugger that stops in the loop
+// sees in this frame what is left to insert (`rest`), the slot of its bucket (`slot`) and the level (`level`, of number `i`).
+fn insert_splitting(level: &mut [u32], n: usize, i: u8, x: u32, v: u64, j: usize)
     requires { ⌜ Ready n i x v j (now level) ⌝ }
     ensures { λ _. ⌜ now (level .exit) ≡ encodeLevel n (insert n i x v (decodeLevel (now (level .entry)))) ⌝ }
 {
-    let at = LEVEL_HEAD_LEN + SLOT_LEN * j;
-    let width = level[at + 1];
-    let weight = long(level[at + 2]) + v;
-    let full = 2 * long(power(i));
-    if stays_whole(width, weight, full) {
-        gain(level, j, v);
-        return;
+    let mut rest = v;
+    let mut slot = j;
+    while gets_full(&level[..], i, rest, slot) {
+        let next = split(level, n, i, x, rest, slot);
+        if next.evicted {
+            return;
+        }
+        rest = next.rest;
+        slot = next.slot;
     }
-    let half = width / 2;
-    let middle = level[at] + half;
-    let up = split_at(level, n, i, j, half);
-    let rest = weight - full;
-    if middle <= x {
-        pour(level, n, i, x, rest, up);
-        return;
-    }
-    if up == 0 {
-        return;
-    }
-    pour(level, n, i, x, rest, up - 1);
+    gain(level, slot, rest);
 }
 
 // Whether slot j has the bucket of offset x.
@@ -94,5 +130,5 @@ pub fn insert(level: &mut [u32], s: Shape, i: u8, x: u32, v: u64)
         return;
     }
     let j = find(level, x);
-    pour(level, s.n as usize, i, x, v, j);
+    insert_splitting(level, s.n as usize, i, x, v, j);
 }

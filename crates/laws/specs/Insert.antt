@@ -142,14 +142,14 @@ made n x f kept before under after rest few =
     let fits : (b : Bucket) → length (before ++ b ∷ after) ≤ n = λ b. omega (arith, one-longer before b after) in
     rw (evict-none n 0 f (before ++ bucketOf x 1 1 ∷ after) (fits _), evict-none n 0 f (before ++ bucketOf x 1 (1 + rest) ∷ after) (fits _))
     (insert-put n x f kept before under (bucketOf x 1 1) after refl (fits _) rest))
-    (λ (none : n ≤ length (before ++ after)). given-up before under (omega arith))
+    (λ (none : n ≤ length (before ++ after)). evicting before under (omega arith))
     (lt-or-ge (length (before ++ after)) n)
   where
-    given-up : (cs : List Bucket) → Under x cs → length (cs ++ after) ≡ n
+    evicting : (cs : List Bucket) → Under x cs → length (cs ++ after) ≡ n
         → insert n 0 x rest (evict n 0 f (cs ++ bucketOf x 1 1 ∷ after)) ≡ evict n 0 f (cs ++ bucketOf x 1 (1 + rest) ∷ after)
-    given-up [] u e = rw (evict-lowest n 0 f (bucketOf x 1 1) after e, evict-lowest n 0 f (bucketOf x 1 (1 + rest)) after e)
+    evicting [] u e = rw (evict-lowest n 0 f (bucketOf x 1 1) after e, evict-lowest n 0 f (bucketOf x 1 (1 + rest)) after e)
         (insert-below n 0 x rest (levelOf (x + 1) after) (omega arith))
-    given-up (c ∷ cs) u e =
+    evicting (c ∷ cs) u e =
         let fits : (b : Bucket) → length (cs ++ b ∷ after) ≡ n = λ b. omega (arith, one-longer cs b after) in
         rw (evict-lowest n 0 f c (cs ++ bucketOf x 1 1 ∷ after) (fits _), evict-lowest n 0 f c (cs ++ bucketOf x 1 (1 + rest) ∷ after) (fits _))
         (insert-put n x (c .offset + 1) (omega arith) cs (u .1) (bucketOf x 1 1) after refl (omega (arith, fits (bucketOf x 1 1))) rest)

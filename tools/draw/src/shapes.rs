@@ -14,7 +14,7 @@ pub const SITE: Numbers = [20, 441, 24, 1];
 /// A site with every grade.
 pub const SITE_OF_EIGHT: Numbers = [20, 441, 24, 8];
 
-/// Few slots, so that a few deliveries already make levels give up buckets; 2 6 1 1 needs as many
+/// Few slots, so that a few deliveries already make levels evict buckets; 2 6 1 1 needs as many
 /// words as the example.
 const SMALL: [Numbers; 11] = [
     [2, 2, 1, 1],

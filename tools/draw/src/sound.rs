@@ -120,7 +120,7 @@ fn level_from_one(random: &mut Random, shape: Shape, index: usize, total: u64) -
     plainest.expect("as many buckets as there can be take the total, or evicted ones leave it")
 }
 
-/// A level that gave up nothing: its weights are the total.
+/// A level that evicted nothing: its weights are the total.
 fn kept_level(
     random: &mut Random,
     shape: Shape,
@@ -137,7 +137,7 @@ fn kept_level(
     Some(spans.level(weights))
 }
 
-/// A level that gave up its lowest buckets: n are left, of at most the total.
+/// A level that evicted its lowest buckets: n are left, of at most the total.
 fn evicted_level(random: &mut Random, shape: Shape, index: usize, total: u64) -> Option<Level> {
     let n = shape.n() as usize;
     let mut spans = Spans::whole(random, shape);

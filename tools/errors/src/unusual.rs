@@ -110,7 +110,7 @@ pub fn uniform(seed: u64) -> Order {
 
 /// Against the bound. First the interval's first tick gets so much that level i splits down to it,
 /// which leaves 2^i on every bucket beside the way, all of it wrong. Then each 2^(i-1) elsewhere
-/// splits one bucket of level i - 1, so that it gives up the opening after as little as possible,
+/// splits one bucket of level i - 1, so that it evicts the opening after as little as possible,
 /// and level i serves.
 pub fn aimed(seed: u64) -> Order {
     let mut random = Random::new(seed);

@@ -83,7 +83,7 @@ pub trait Calls {
         let offset = shape.offset(tick) as u32;
         let levels = block[half(shape, parity)].chunks_exact_mut(shape.level_length());
         for (index, level) in (0..).zip(levels) {
-            insertion::pour(level, index, offset, volume);
+            insertion::insert(level, index, offset, volume);
         }
         Ok(())
     }

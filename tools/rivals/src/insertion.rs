@@ -8,8 +8,8 @@ use reference::shape::Shape;
 /// A bucket is split at most so often by one volume: its length is at most 2^20.
 const SPLITS_MAX: usize = Shape::K_MAX as usize;
 
-/// Pours a volume into exactly the words of the level of this index.
-pub fn pour(level: &mut [u32], index: u32, offset: u32, volume: u32) {
+/// Inserts a volume into exactly the words of the level of this index (document 01: to pour).
+pub fn insert(level: &mut [u32], index: u32, offset: u32, volume: u32) {
     let (head, slots) = level.split_at_mut(layout::LEVEL_HEAD_WORDS);
     let (count, first) = (head[0] as usize, head[1]);
     let slots = slots.as_chunks_mut().0;
@@ -50,7 +50,7 @@ fn at_tick(slots: &mut [Slot], count: usize, first: u32, offset: u32, volume: u3
         slots[at] = made;
         (count + 1, first)
     } else if at == 0 {
-        // The first decilitre makes the bucket and gives it up; the rest is below the first offset.
+        // The bucket that the first decilitre makes is evicted; the rest is below the first offset.
         (count, offset + 1)
     } else {
         let first = slots[0][0] + 1;
@@ -60,7 +60,7 @@ fn at_tick(slots: &mut [Slot], count: usize, first: u32, offset: u32, volume: u3
     }
 }
 
-/// Level i from 1 on: the covering bucket takes the volume, or is split.
+/// Level i from 1 on: the bucket that spans the offset takes the volume, or is split.
 fn in_span(
     slots: &mut [Slot],
     count: usize,
@@ -78,7 +78,7 @@ fn in_span(
     (count, first)
 }
 
-/// Fills the bucket at this place, splits it, and goes on in the half that covers the offset.
+/// Fills the bucket of this slot, splits it, and goes on in the half that spans the offset.
 #[inline(never)]
 fn split(
     slots: &mut [Slot],
@@ -99,7 +99,7 @@ fn split(
     while length > 1 && rest >= full - weight {
         rest -= full - weight;
         (length, weight) = (length / 2, part);
-        // Which half covers the offset cannot be foreseen: both are written, and one is kept.
+        // Which half spans the offset cannot be foreseen: both are written, and one is kept.
         let right = offset >= start + length;
         before[befores] = [start, length, part];
         after[afters] = [start + length, length, part];

@@ -1,4 +1,4 @@
--- Below F nothing changes. Otherwise the slot found is what level 0, or the recursion, requires.
+-- Below F nothing changes. Otherwise the slot found is what level 0, or the loop, requires.
 use native.Mathlib.Omega.{arith}
 use borrow.Author.Needs.{needs}
 use Rattle.insert.specs.Entry.{searchable, below, found, found-ready}
@@ -25,11 +25,11 @@ returns-2 c = rw (c .before .before .before .before .if2 .taken) (c .before .bef
 find-requires : tie.Need-find-requires
 find-requires c κs = searchable (c .before .before .before .before .before .pre)
 
-cast-pour : tie.Need-cast-pour
-cast-pour c = search needs
+cast-insert-splitting : tie.Need-cast-insert-splitting
+cast-insert-splitting c = search needs
 
-pour-requires : tie.Need-pour-requires
-pour-requires c κs =
+insert-splitting-requires : tie.Need-insert-splitting-requires
+insert-splitting-requires c κs =
     let d = c .before .before in
     let b = d .before .before .before in
     found-ready (found (b .before .before .before .pre) (b .if1 .left) (d .find .ensures)) (omega (arith, d .before .before .if2 .left))
@@ -50,7 +50,7 @@ insert-spec =
     same-length
     returns-2
     find-requires
-    cast-pour
-    pour-requires
+    cast-insert-splitting
+    insert-splitting-requires
     same-length-2
     returns-3)

@@ -90,7 +90,7 @@ impl Caller<'_> {
     }
 
     /// None, the most, as much as there is room for, one more, or about a power of two, where
-    /// weights halve.
+    /// buckets split.
     fn edge_volume(&mut self, room: u64) -> u64 {
         let capacity = self.shape().capacity();
         let random = &mut *self.random;

@@ -1,0 +1,82 @@
+-- Inserting the rest into the bucket at hand gives what inserting all of it gave at first. Each split halves that bucket's width, which is the
+-- measure.
+use mathlib.Core.Path.{_≡_, refl, sym, ap, _∙_}
+use native.Mathlib.Omega.{arith}
+use lib.ListN.{length}
+use borrow.Author.Needs.{needs}
+use Rattle.model.specs.Level.{insert}
+use Rattle.model.specs.Words.{slot, decodeLevel, encodeLevel}
+use Rattle.insert.specs.Ready.{Ready, filled}
+use Rattle.insert.specs.Loop.{has-room}
+use Rattle.insert.proofs.insert_splitting.Statement.{statement}
+use Rattle.insert.proofs.insert_splitting.Tie as tie
+
+abbrev Inv-loop : tie.InvT-loop
+Inv-loop level₀ n i x v j rest₀ at₀ level rest at =
+    (length level ≡ length level₀) × Ready n i x rest at level × (insert n i x rest (decodeLevel level) ≡ insert n i x v (decodeLevel level₀))
+
+abbrev μ-loop : tie.MeasureT-loop
+μ-loop level₀ n i x v j rest₀ at₀ level rest at = slot level at .width
+
+loop-holds : tie.Need-loop-holds Inv-loop μ-loop
+loop-holds c = (refl, c .before .pre, refl)
+
+gets-full-requires : tie.Need-gets-full-requires Inv-loop μ-loop
+gets-full-requires c κs =
+    let r = c .before .loop .inv .1 in
+    (omega (arith, r .takes .size, r .count, r .takes .few), omega (arith, r .limits .high), r .covers .fits)
+
+split-requires : tie.Need-split-requires Inv-loop μ-loop
+split-requires c κs =
+    let l = c .before .before .before .before in
+    (l .loop .inv .1, sym (c .before .before .gets-full .ensures) ∙ c .before .if1 .taken)
+
+same-length : tie.Need-same-length Inv-loop μ-loop
+same-length c = search needs
+
+returns : tie.Need-returns Inv-loop μ-loop
+returns c =
+    let l = c .before .before .before .before .before .before .before .before in
+    c .before .before .before .split .ensures .ended (c .if2 .taken) ∙ ap (encodeLevel _) (l .loop .inv .2)
+
+loop-less : tie.Need-loop-less Inv-loop μ-loop
+loop-less c = c .before .before .before .split .ensures .kept (c .if2 .left) .0
+
+loop-again : tie.Need-loop-again Inv-loop μ-loop
+loop-again c =
+    let l = c .before .before .before .before .before .before .before .before in
+    let after = c .before .before .before .split .ensures in
+    (search needs, after .kept (c .if2 .left) .1, after .same ∙ l .loop .inv .2)
+
+gain-requires : tie.Need-gain-requires Inv-loop μ-loop
+gain-requires c κs =
+    let r = c .before .before .before .before .loop .inv .1 in
+    (omega (arith, r .takes .size, r .count, r .takes .few), r .covers .fits)
+
+same-length-2 : tie.Need-same-length-2 Inv-loop μ-loop
+same-length-2 c = search needs
+
+returns-2 : tie.Need-returns-2 Inv-loop μ-loop
+returns-2 c =
+    let e = c .before .before .before .before in
+    let l = e .before .before .before in
+    let a = l .before .before .args in
+    let here = slot (l .loop .level) (l .loop .slot) in
+    c .before .before .gain .ensures ∙ filled (l .loop .inv .1) (has-room (a .i) (l .loop .rest) here (sym (e .before .gets-full .ensures) ∙ e .if1 .left)) ∙ ap (encodeLevel _) (l .loop .inv .2)
+
+pub insert-splitting-spec : {M : Type 1} → statement M
+insert-splitting-spec =
+    tie.close
+    (tie.spec
+    Inv-loop
+    μ-loop
+    loop-holds
+    gets-full-requires
+    split-requires
+    same-length
+    returns
+    loop-less
+    loop-again
+    gain-requires
+    same-length-2
+    returns-2)

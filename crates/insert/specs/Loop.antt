@@ -32,5 +32,5 @@ module _ (i v : ℕ) (b : Bucket) where
 -- evicted
 pub record Continues (n i x v j : ℕ) (ws ws′ : List ℕ) (r : Onward) : Type 0 where
   pub same : insert n i x (r .rest) (decodeLevel ws′) ≡ insert n i x v (decodeLevel ws)
-  pub kept : r .evicted ≡ false → (slot ws′ (r .slot) .width < slot ws j .width) × Ready n i x (r .rest) (r .slot) ws′
-  pub ended : r .evicted ≡ true → ws′ ≡ encodeLevel n (insert n i x v (decodeLevel ws))
+  pub goes-on : r .kept ≡ true → (slot ws′ (r .slot) .width < slot ws j .width) × Ready n i x (r .rest) (r .slot) ws′
+  pub ends : r .kept ≡ false → ws′ ≡ encodeLevel n (insert n i x v (decodeLevel ws))

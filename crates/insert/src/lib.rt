@@ -21,12 +21,12 @@ ghost use Rattle.insert.specs.Ready.{Ready};
 ghost use Rattle.insert.specs.Loop.{getsFull, Continues};
 ghost use Rattle.insert.specs.Entry.{At};
 
-// Where an insertion goes on after a split: what is left, and the slot of the half that spans the offset. If that half was evicted, the rest is
-// ignored.
+// How an insertion goes on after a split: what is left to insert, the slot of the half that spans the offset, and whether this half was
+// kept. If it was evicted (document 01's 'given up'), the rest is ignored.
 struct Onward {
     rest: u64,
     slot: usize,
-    evicted: bool,
+    kept: bool,
 }
 
 // Whether v more make the bucket of slot j full, so that it is split.
@@ -41,8 +41,8 @@ fn gets_full(level: &[u32], i: u8, v: u64, j: usize) -> bool
     2 * long(power(i)) <= long(level[at + 2]) + v
 }
 
-// One round of an insertion: fills the bucket of slot j, which spans x, and splits it. The rest of v goes into the half that spans x. (Document
-// 01 says 'fill', 'halve' and 'given up' for fill, split and evicted.)
+// Fills the bucket of slot j, which spans x, with a part of v, and splits it (document 01's 'fill, halve'). The rest goes into the half that
+// spans x.
 fn split(level: &mut [u32], n: usize, i: u8, x: u32, v: u64, j: usize) -> Onward
     requires { ⌜ Ready n i x v j (now level) × (getsFull i v (slot (now level) j) ≡ true) ⌝ }
     ensures { λ r. ⌜ Continues n i x v j (now (level .entry)) (now (level .exit)) r ⌝ }
@@ -56,26 +56,26 @@ fn split(level: &mut [u32], n: usize, i: u8, x: u32, v: u64, j: usize) -> Onward
         return Onward {
             rest: rest,
             slot: up,
-            evicted: false,
+            kept: true,
         };
     }
     if up == 0 {
         return Onward {
             rest: rest,
             slot: up,
-            evicted: true,
+            kept: false,
         };
     }
     Onward {
         rest: rest,
         slot: up - 1,
-        evicted: false,
+        kept: true,
     }
 }
 
-// Level i from 1: inserts v at offset x into the bucket of slot j, which spans x (document 01: to pour). As long as the bucket gets full it
-// is split, and the rest goes into the half that spans x. If that half was evicted, the rest is ignored. A debugger that stops in the loop
-// sees in this frame what is left to insert (`rest`), the slot of its bucket (`slot`) and the level (`level`, of number `i`).
+// Level i from 1: inserts v at offset x into the bucket of slot j, which spans x (document 01's 'pour', bucket by bucket). As long as the
+// bucket gets full it is split, and the rest goes into the half that spans x. If that half was evicted, the rest is ignored. A debugger that
+// stops in the loop sees in this frame what is left to insert (`rest`), the slot of its bucket (`slot`) and the level (`level`, of number `i`).
 fn insert_splitting(level: &mut [u32], n: usize, i: u8, x: u32, v: u64, j: usize)
     requires { ⌜ Ready n i x v j (now level) ⌝ }
     ensures { λ _. ⌜ now (level .exit) ≡ encodeLevel n (insert n i x v (decodeLevel (now (level .entry)))) ⌝ }
@@ -84,7 +84,7 @@ fn insert_splitting(level: &mut [u32], n: usize, i: u8, x: u32, v: u64, j: usize
     let mut slot = j;
     while gets_full(&level[..], i, rest, slot) {
         let next = split(level, n, i, x, rest, slot);
-        if next.evicted {
+        if !next.kept {
             return;
         }
         rest = next.rest;
@@ -117,7 +117,7 @@ fn insert_single(level: &mut [u32], s: Shape, x: u32, v: u64)
     put_at(level, s.n as usize, 0, j, x, 1, v as u32);
 }
 
-// v decilitres at offset x into level i. Below F they are ignored.
+// Inserts v decilitres at offset x into level i (document 01's 'pour'). Below F they are ignored.
 pub fn insert(level: &mut [u32], s: Shape, i: u8, x: u32, v: u64)
     requires { ⌜ Insertable s i x v (now level) ⌝ }
     ensures { λ _. ⌜ now (level .exit) ≡ encodeLevel (s .n) (insert (s .n) i x v (decodeLevel (now (level .entry)))) ⌝ }

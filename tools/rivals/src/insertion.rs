@@ -8,7 +8,7 @@ use reference::shape::Shape;
 /// A bucket is split at most so often by one volume: its length is at most 2^20.
 const SPLITS_MAX: usize = Shape::K_MAX as usize;
 
-/// Inserts a volume into exactly the words of the level of this index (document 01: to pour).
+/// Inserts a volume into exactly the words of the level of this index (document 01's 'pour').
 pub fn insert(level: &mut [u32], index: u32, offset: u32, volume: u32) {
     let (head, slots) = level.split_at_mut(layout::LEVEL_HEAD_WORDS);
     let (count, first) = (head[0] as usize, head[1]);

@@ -4,6 +4,7 @@ use mathlib.Core.Path.{_≡_, refl, sym, ap, _∙_}
 use native.Mathlib.Omega.{arith}
 use lib.ListN.{length}
 use borrow.Author.Needs.{needs}
+use borrow.Author.Tests.{not-true, not-false}
 use Rattle.model.specs.Level.{insert}
 use Rattle.model.specs.Words.{slot, decodeLevel, encodeLevel}
 use Rattle.insert.specs.Ready.{Ready, filled}
@@ -36,17 +37,17 @@ same-length c = search needs
 
 returns : tie.Need-returns Inv-loop μ-loop
 returns c =
-    let l = c .before .before .before .before .before .before .before .before in
-    c .before .before .before .split .ensures .ended (c .if2 .taken) ∙ ap (encodeLevel _) (l .loop .inv .2)
+    let l = c .before .before .before .before .before .before .before .before .before in
+    c .before .before .before .before .split .ensures .ends (not-true _ (c .if2 .taken)) ∙ ap (encodeLevel _) (l .loop .inv .2)
 
 loop-less : tie.Need-loop-less Inv-loop μ-loop
-loop-less c = c .before .before .before .split .ensures .kept (c .if2 .left) .0
+loop-less c = c .before .before .before .before .split .ensures .goes-on (not-false _ (c .if2 .left)) .0
 
 loop-again : tie.Need-loop-again Inv-loop μ-loop
 loop-again c =
-    let l = c .before .before .before .before .before .before .before .before in
-    let after = c .before .before .before .split .ensures in
-    (search needs, after .kept (c .if2 .left) .1, after .same ∙ l .loop .inv .2)
+    let l = c .before .before .before .before .before .before .before .before .before in
+    let after = c .before .before .before .before .split .ensures in
+    (search needs, after .goes-on (not-false _ (c .if2 .left)) .1, after .same ∙ l .loop .inv .2)
 
 gain-requires : tie.Need-gain-requires Inv-loop μ-loop
 gain-requires c κs =

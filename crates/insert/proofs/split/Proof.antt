@@ -85,7 +85,7 @@ same-length c = search needs
 returns : tie.Need-returns
 returns c =
     let a = after (c .before .before .before) in
-    record { same = onward a; kept = λ _. next-upper a (c .if1 .taken); ended = λ e. absurd (true≢false (sym e)) }
+    record { same = onward a; goes-on = λ _. next-upper a (c .if1 .taken); ends = λ e. absurd (true≢false e) }
 
 same-length-2 : tie.Need-same-length-2
 same-length-2 c = search needs
@@ -93,7 +93,7 @@ same-length-2 c = search needs
 returns-2 : tie.Need-returns-2
 returns-2 c =
     let a = after (c .before .before .before .before) in
-    record { same = onward a; kept = λ e. absurd (true≢false e); ended = λ _. lower-evicted a (c .before .if1 .left) (c .if2 .taken) }
+    record { same = onward a; goes-on = λ e. absurd (true≢false (sym e)); ends = λ _. lower-evicted a (c .before .if1 .left) (c .if2 .taken) }
 
 sub-t14 : tie.Need-sub-t14
 sub-t14 c = search needs
@@ -104,7 +104,7 @@ same-length-3 c = search needs
 returns-3 : tie.Need-returns-3
 returns-3 c =
     let a = after (c .before .before .before .before) in
-    record { same = onward a; kept = λ _. next-lower a (c .before .if1 .left) (omega arith); ended = λ e. absurd (true≢false (sym e)) }
+    record { same = onward a; goes-on = λ _. next-lower a (c .before .if1 .left) (omega arith); ends = λ e. absurd (true≢false e) }
 
 pub split-spec : {M : Type 1} → statement M
 split-spec =

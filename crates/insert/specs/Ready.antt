@@ -135,8 +135,8 @@ module _ {n i x v j rest : ℕ} {ws ws′ : List ℕ} {up : ℕ} (c : WasSplit n
       (one-round n x (r .first) (r .kept) (r .before) (r .passed) b (r .covers .low) (r .covers .high) (r .after) (few r) i (r .limits .low) lower higher (r .covers .low))
 
   -- inserting the rest after the split is inserting v before it
-  pub onward : insert n i x rest (decodeLevel ws′) ≡ insert n i x v (decodeLevel ws)
-  onward =
+  pub rest-same : insert n i x rest (decodeLevel ws′) ≡ insert n i x v (decodeLevel ws)
+  rest-same =
       let level = levelOf (r .first) (r .before ++ b ∷ r .after) in
       let is : rest ≡ b .weight + v - 2 ^ suc i = omega (arith, c .full) in
       ap (insert n i x rest) (decoded left refl) ∙ ap (λ (z : ℕ). insert n i x z left) is
@@ -191,4 +191,4 @@ module _ {n i x v j rest : ℕ} {ws ws′ : List ℕ} {up : ℕ} (c : WasSplit n
       go (both f before same place fits passed kept) = absurd (omega arith)
       go (upper same zero-up fits) =
           let l = levelOf (b .offset + half) (higher ∷ r .after) in
-          words ∙ ap (encodeLevel n) (same ∙ sym (insert-below n i x rest l h) ∙ sym (ap (insert n i x rest) (decoded l same)) ∙ onward)
+          words ∙ ap (encodeLevel n) (same ∙ sym (insert-below n i x rest l h) ∙ sym (ap (insert n i x rest) (decoded l same)) ∙ rest-same)

@@ -22,7 +22,7 @@ ghost use Rattle.insert.specs.Loop.{getsFull, Continues};
 ghost use Rattle.insert.specs.Entry.{At};
 
 // How an insertion goes on after a split: what is left to insert, the slot of the half that spans the offset, and whether this half was
-// kept. If it was evicted (document 01's 'given up'), the rest is ignored.
+// kept. If it was evicted (document 01's 'given up'), the slot means nothing and the rest is ignored.
 struct Onward {
     rest: u64,
     slot: usize,
@@ -41,8 +41,8 @@ fn gets_full(level: &[u32], i: u8, v: u64, j: usize) -> bool
     2 * long(power(i)) <= long(level[at + 2]) + v
 }
 
-// Fills the bucket of slot j, which spans x, with a part of v, and splits it (document 01's 'fill, halve'). The rest goes into the half that
-// spans x.
+// The bucket of slot j spans x, and v more make it full. Fills it and splits it (document 01's 'fill, halve'). Returns what is left of v and
+// the slot of the half that spans x, or that this half was evicted.
 fn split(level: &mut [u32], n: usize, i: u8, x: u32, v: u64, j: usize) -> Onward
     requires { ⌜ Ready n i x v j (now level) × (getsFull i v (slot (now level) j) ≡ true) ⌝ }
     ensures { λ r. ⌜ Continues n i x v j (now (level .entry)) (now (level .exit)) r ⌝ }
@@ -74,8 +74,9 @@ fn split(level: &mut [u32], n: usize, i: u8, x: u32, v: u64, j: usize) -> Onward
 }
 
 // Level i from 1: inserts v at offset x into the bucket of slot j, which spans x (document 01's 'pour', bucket by bucket). As long as the
-// bucket gets full it is split, and the rest goes into the half that spans x. If that half was evicted, the rest is ignored. A debugger that
-// stops in the loop sees in this frame what is left to insert (`rest`), the slot of its bucket (`slot`) and the level (`level`, of number `i`).
+// bucket gets full it is split, and the rest goes into the half that spans x. If that half was evicted, the rest is ignored. What is left to
+// insert (`rest`), the slot of its bucket (`slot`) and the level (`level`, of number `i`) are variables of this one function, so that a
+// debugger which shows a single frame has all of them.
 fn insert_splitting(level: &mut [u32], n: usize, i: u8, x: u32, v: u64, j: usize)
     requires { ⌜ Ready n i x v j (now level) ⌝ }
     ensures { λ _. ⌜ now (level .exit) ≡ encodeLevel n (insert n i x v (decodeLevel (now (level .entry)))) ⌝ }

@@ -1,5 +1,5 @@
--- Inserting the rest into the bucket at hand gives what inserting all of it gave at first. Each split halves that bucket's width, which is the
--- measure.
+-- Inserting the rest into the bucket at hand gives what inserting all of it gave at first. Each split halves the width of that bucket,
+-- which is the measure.
 use mathlib.Core.Path.{_≡_, refl, sym, ap, _∙_}
 use native.Mathlib.Omega.{arith}
 use lib.ListN.{length}

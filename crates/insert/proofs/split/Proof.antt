@@ -1,12 +1,12 @@
--- What is read before the split gives the rest and the middle. The bucket is split, and the rest goes into the half that spans the offset, if it
--- is still there.
+-- What is read before the split gives the rest and the middle. Then the bucket is split, and the rest goes into the half that spans the
+-- offset, if this half is still there.
 use mathlib.Core.Bool.{true≢false}
 use mathlib.Core.Path.{sym}
 use Prim.Native.Nat.{_+_, _-_, _*_}
 use native.Mathlib.Omega.{arith}
 use borrow.Author.Needs.{needs}
 use Rattle.model.specs.Words.{slot}
-use Rattle.insert.specs.Ready.{WasSplit, onward, next-upper, next-lower, lower-evicted}
+use Rattle.insert.specs.Ready.{WasSplit, rest-same, next-upper, next-lower, lower-evicted}
 use Rattle.insert.specs.Loop.{full}
 use Rattle.insert.proofs.split.Statement.{statement}
 use Rattle.insert.proofs.split.Tie as tie
@@ -69,12 +69,12 @@ split-at-requires : tie.Need-split-at-requires
 split-at-requires c κs = search needs
 
 -- what is known after the split
-after : (d : tie.After-split-at)
+was-split : (d : tie.After-split-at)
     → let r = d .before .before .before .before in
     let l = r .before .before in
     let a = l .before .before .before .args in
     WasSplit (a .n) (a .i) (a .x) (a .v) (a .j) (l .long .result + a .v - 2 * r .long2 .result) (a .level .now) (d .split-at .last .0) (d .split-at .result)
-after d =
+was-split d =
     let s = d .before .before .before .before .before .before .before .before .before in
     let fills = full (s .args .i) (s .args .v) (slot (s .args .level .now) (s .args .j)) (s .pre .1) in
     record { ready-was = s .pre .0; long = fills .0; full = omega (arith, fills .1); split = d .split-at .ensures }
@@ -84,16 +84,16 @@ same-length c = search needs
 
 returns : tie.Need-returns
 returns c =
-    let a = after (c .before .before .before) in
-    record { same = onward a; goes-on = λ _. next-upper a (c .if1 .taken); ends = λ e. absurd (true≢false e) }
+    let a = was-split (c .before .before .before) in
+    record { part = a .full; words = a .split .words; same = rest-same a; goes-on = λ _. next-upper a (c .if1 .taken); ends = λ e. absurd (true≢false e) }
 
 same-length-2 : tie.Need-same-length-2
 same-length-2 c = search needs
 
 returns-2 : tie.Need-returns-2
 returns-2 c =
-    let a = after (c .before .before .before .before) in
-    record { same = onward a; goes-on = λ e. absurd (true≢false (sym e)); ends = λ _. lower-evicted a (c .before .if1 .left) (c .if2 .taken) }
+    let a = was-split (c .before .before .before .before) in
+    record { part = a .full; words = a .split .words; same = rest-same a; goes-on = λ e. absurd (true≢false (sym e)); ends = λ _. lower-evicted a (c .before .if1 .left) (c .if2 .taken) }
 
 sub-t14 : tie.Need-sub-t14
 sub-t14 c = search needs
@@ -103,8 +103,8 @@ same-length-3 c = search needs
 
 returns-3 : tie.Need-returns-3
 returns-3 c =
-    let a = after (c .before .before .before .before) in
-    record { same = onward a; goes-on = λ _. next-lower a (c .before .if1 .left) (omega arith); ends = λ e. absurd (true≢false e) }
+    let a = was-split (c .before .before .before .before) in
+    record { part = a .full; words = a .split .words; same = rest-same a; goes-on = λ _. next-lower a (c .before .if1 .left) (omega arith); ends = λ e. absurd (true≢false e) }
 
 pub split-spec : {M : Type 1} → statement M
 split-spec =

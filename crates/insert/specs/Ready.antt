@@ -3,8 +3,7 @@
 use mathlib.Core.Bool.{cond}
 use mathlib.Core.List.{List, [], _∷_, _++_, append-assoc}
 use mathlib.Core.Path.{_≡_, refl, sym, ap, subst, _∙_}
-use Prim.Native.Nat.{ℕ, zero, suc, _+_, _-_, _/_, _^_, _≤_, _<_}
-use native.Mathlib.Nat.{pow-suc}
+use Prim.Native.Nat.{ℕ, suc, _+_, _-_, _/_, _^_, _≤_, _<_}
 use native.Mathlib.Omega.{arith}
 use lib.Dec.{ltb}
 use lib.ListN.{length, getD, set, length-append}
@@ -13,6 +12,7 @@ use Rattle.shape.specs.Layout.{slotStart}
 use Rattle.model.specs.Level.{Bucket, Level, bucketOf, levelOf, evict, insert}
 use Rattle.model.specs.Words.{slot, decodeLevel, encodeLevel}
 use Rattle.laws.specs.Bucket.{halves}
+use Rattle.laws.specs.Add.{Halved, halved}
 use Rattle.laws.specs.Insert.{insert-below}
 use Rattle.laws.specs.LevelWords.{decode-encode}
 use Rattle.laws.specs.LevelWrites.{slot-encode, set-weight}
@@ -77,6 +77,10 @@ module _ {n i x v j : ℕ} {ws : List ℕ} (r : Ready n i x v j ws) where
   few : length (r .before) + suc (length (r .after)) ≤ n
   few = omega (arith, r .place, r .count, r .takes .few)
 
+  -- slot j lies within the level
+  pub inside : slotStart (j + 1) ≤ length ws
+  inside = omega (arith, r .takes .size, r .count, r .takes .few)
+
   -- the bucket takes all of v
   pub filled : (1 < slot ws j .width → slot ws j .weight + v < 2 ^ suc i)
       → set ws (slotStart j + 2) (slot ws j .weight + v) ≡ encodeLevel n (insert n i x v (decodeLevel ws))
@@ -88,11 +92,6 @@ module _ {n i x v j : ℕ} {ws : List ℕ} (r : Ready n i x v j ws) where
       ∙ ap (encodeLevel n) (sym (ap (insert n i x v) (ap decodeLevel (r .held) ∙ decode-encode n level) ∙ taken))
 
 -- ---- the bucket is split
-
--- a power of two above 1 has two equal halves
-halved : (size width : ℕ) → width ≡ 2 ^ size → 1 < width → (width / 2 ≡ 2 ^ (size - 1)) × (width / 2 + width / 2 ≡ width)
-halved zero width power long = absurd (omega arith)
-halved (suc less) width power long = let e : suc less - 1 ≡ less = omega arith in rw e (omega (arith, pow-suc 2 less))
 
 -- the bucket of slot j was filled and split, and `rest` is what is left of v
 pub record WasSplit (n i x v j rest : ℕ) (ws ws′ : List ℕ) (up : ℕ) : Type 0 where
@@ -110,6 +109,9 @@ module _ {n i x v j rest : ℕ} {ws ws′ : List ℕ} {up : ℕ} (c : WasSplit n
 
   abbrev half : ℕ
   half = b .width / 2
+
+  parts : Halved (b .width) (r .covers .size)
+  parts = halved (b .width) (r .covers .size) (r .covers .power) (c .long)
 
   abbrev lower : Bucket
   lower = bucketOf (b .offset) half (2 ^ i)
@@ -148,11 +150,10 @@ module _ {n i x v j rest : ℕ} {ws ws′ : List ℕ} {up : ℕ} (c : WasSplit n
       → length before ≡ to → length (before ++ bucketOf a half (2 ^ i) ∷ after) ≤ n → f ≤ x → Passed x before → a ≤ x → x < a + half → a + half ≤ b .offset + b .width
       → (slot ws′ to .width < b .width) × Ready n i x rest to ws′
   half-ready f before a after to same place fits kept passed low high end =
-      let parts = halved (r .covers .size) (b .width) (r .covers .power) (c .long) in
       let positive = pow-pos i in
       let covers : Covers i x rest (bucketOf a half (2 ^ i)) = record {
-        size = r .covers .size - 1;
-        power = parts .0;
+        size = parts .less;
+        power = parts .half;
         low = low;
         high = high;
         end = omega (arith, r .covers .end);
@@ -160,13 +161,13 @@ module _ {n i x v j rest : ℕ} {ws ws′ : List ℕ} {up : ℕ} (c : WasSplit n
         fits = omega (arith, r .covers .fits, c .full);
       } in
       let next = ready n i x rest ws′ f before (bucketOf a half (2 ^ i)) after to place (words ∙ ap (encodeLevel n) same) fits kept passed covers (r .limits) in
-      (omega (arith, ap (λ (z : Bucket). z .width) (next .0), parts .1), next .1)
+      (omega (arith, ap (λ (z : Bucket). z .width) (next .0), parts .twice), next .1)
 
   pub next-upper : b .offset + half ≤ x → (slot ws′ up .width < b .width) × Ready n i x rest up ws′
   next-upper h = go cases
     where
       ends : higher .offset + half ≡ b .offset + b .width
-      ends = omega (arith, halved (r .covers .size) (b .width) (r .covers .power) (c .long))
+      ends = omega (arith, parts .twice)
 
       go : Round n x lower higher (r .after) up left → (slot ws′ up .width < b .width) × Ready n i x rest up ws′
       go (both f before same place fits passed kept) =
@@ -180,7 +181,7 @@ module _ {n i x v j rest : ℕ} {ws ws′ : List ℕ} {up : ℕ} (c : WasSplit n
       go : Round n x lower higher (r .after) up left → (slot ws′ (up - 1) .width < b .width) × Ready n i x rest (up - 1) ws′
       go (both f before same place fits passed kept) =
           half-ready f before (b .offset) (higher ∷ r .after) (up - 1) same (omega arith) (simp length-append (omega arith)) kept passed (r .covers .low) h
-          (omega (arith, halved (r .covers .size) (b .width) (r .covers .power) (c .long)))
+          (omega (arith, parts .twice))
       go (upper same none fits) = absurd (omega arith)
 
   -- the half that spans x was evicted, so the rest is ignored

@@ -66,9 +66,10 @@ fn split(level: &mut [u32], n: usize, i: u8, x: u32, v: u64, j: usize) -> Onward
             kept: false,
         };
     }
+    let lower = up - 1;
     Onward {
         rest: rest,
-        slot: up - 1,
+        slot: lower,
         kept: true,
     }
 }

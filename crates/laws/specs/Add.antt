@@ -50,16 +50,16 @@ pub width-pos : {k a width : ℕ} → Dyadic k a width → 0 < width
 width-pos d = omega (arith, pow-pos (d .size))
 
 -- an interval of more than one tick has two halves
-record Halved (width size : ℕ) : Type 0 where
-  less : ℕ
-  one-more : size ≡ suc less
-  half : width / 2 ≡ 2 ^ less
-  twice : width ≡ 2 * (width / 2)
+pub record Halved (width size : ℕ) : Type 0 where
+  pub less : ℕ
+  pub one-more : size ≡ suc less
+  pub half : width / 2 ≡ 2 ^ less
+  pub twice : width ≡ 2 * (width / 2)
 
 half-power : (z : ℕ) → 2 ^ suc z / 2 ≡ 2 ^ z
 half-power z = rw pow-suc (mul-div-cancel (2 ^ z) (lit< tt))
 
-halved : (width size : ℕ) → width ≡ 2 ^ size → 1 < width → Halved width size
+pub halved : (width size : ℕ) → width ≡ 2 ^ size → 1 < width → Halved width size
 halved width zero e h = absurd (omega arith)
 halved width (suc z) e h =
     let half : width / 2 ≡ 2 ^ z = ap (λ (w : ℕ). w / 2) e ∙ half-power z in

@@ -7,7 +7,7 @@ use borrow.Author.Needs.{needs}
 use borrow.Author.Tests.{not-true, not-false}
 use Rattle.model.specs.Level.{insert}
 use Rattle.model.specs.Words.{slot, decodeLevel, encodeLevel}
-use Rattle.insert.specs.Ready.{Ready, filled}
+use Rattle.insert.specs.Ready.{Ready, inside, filled}
 use Rattle.insert.specs.Loop.{has-room}
 use Rattle.insert.proofs.insert_splitting.Statement.{statement}
 use Rattle.insert.proofs.insert_splitting.Tie as tie
@@ -25,7 +25,7 @@ loop-holds c = (refl, c .before .pre, refl)
 gets-full-requires : tie.Need-gets-full-requires Inv-loop μ-loop
 gets-full-requires c κs =
     let r = c .before .loop .inv .1 in
-    (omega (arith, r .takes .size, r .count, r .takes .few), omega (arith, r .limits .high), r .covers .fits)
+    (inside r, omega (arith, r .limits .high), r .covers .fits)
 
 split-requires : tie.Need-split-requires Inv-loop μ-loop
 split-requires c κs =
@@ -52,7 +52,7 @@ loop-again c =
 gain-requires : tie.Need-gain-requires Inv-loop μ-loop
 gain-requires c κs =
     let r = c .before .before .before .before .loop .inv .1 in
-    (omega (arith, r .takes .size, r .count, r .takes .few), r .covers .fits)
+    (inside r, r .covers .fits)
 
 same-length-2 : tie.Need-same-length-2 Inv-loop μ-loop
 same-length-2 c = search needs

@@ -95,8 +95,8 @@ returns-2 c =
     let a = was-split (c .before .before .before .before) in
     record { part = a .full; words = a .split .words; same = rest-same a; goes-on = λ e. absurd (true≢false (sym e)); ends = λ _. lower-evicted a (c .before .if1 .left) (c .if2 .taken) }
 
-sub-t14 : tie.Need-sub-t14
-sub-t14 c = search needs
+sub-lower : tie.Need-sub-lower
+sub-lower c = search needs
 
 same-length-3 : tie.Need-same-length-3
 same-length-3 c = search needs
@@ -132,6 +132,6 @@ split-spec =
     returns
     same-length-2
     returns-2
-    sub-t14
+    sub-lower
     same-length-3
     returns-3)

@@ -19,6 +19,7 @@ pub mod BlockWords
 pub mod BlockWrites
 pub mod HalfWrites
 pub mod Deliver
+pub mod DeliverSplits
 pub mod BookWords
 pub mod BookWrites
 pub mod SoundLevel

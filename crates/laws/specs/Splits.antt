@@ -1,48 +1,56 @@
--- How often a delivery splits a bucket of one level: at most as often as the width of the bucket that spans its offset can be halved, so at
--- most k times. Rests on the laws of one round.
-use mathlib.Core.Bool.{cond, _&&_}
+-- How many buckets of one level an insertion splits. Below F and at level 0 it is none. From level 1 on it is none while the bucket that
+-- spans the offset has room, and one more than the rest makes once it was full. It is at most as many as the width of that bucket can be
+-- halved, so at most k. Rests on the laws of one round.
+use mathlib.Core.Bool.{Bool, true, false, cond, _&&_}
 use mathlib.Core.Logic.{⊎-elim}
 use mathlib.Core.Path.{_≡_, refl, ap, subst, _∙_}
 use mathlib.Core.List.{List, [], _∷_, _++_, append-assoc}
 use Prim.Native.Nat.{ℕ, zero, suc, _+_, _-_, _*_, _/_, _^_, _≤_, _<_}
 use native.Mathlib.Nat.{add-zero, add-suc, pow-suc}
 use native.Mathlib.Omega.{arith}
-use borrow.Author.Tests.{lt-ltb, le-ltb}
+use borrow.Author.Tests.{lt-ltb, le-ltb, eq-eqb}
 use lib.Dec.{ltb, eqb, eqb→eq, ltb→lt}
 use lib.ListN.{length, length-append}
 use lib.Pow.{pow-pos}
-use Rattle.model.specs.Level.{Bucket, Level, bucketOf, levelOf, holds, evict, insert}
+use Rattle.model.specs.Level.{Bucket, Level, bucketOf, levelOf, gained, evict, insert, splitCount, addSplits, growSplits, insertSplits}
 use Rattle.laws.specs.Cond.{by-both, lt-or-ge}
 use Rattle.laws.specs.Bucket.{raised, halves, holds-inside}
 use Rattle.laws.specs.Insert.{Uncovered, insert-add, insert-below}
 use Rattle.laws.specs.SoundLevel.{Chained, SoundLevel}
 use Rattle.laws.specs.Evict.{Passed, passed-uncovered, passed-snoc, Round, both, upper, upper-held, upper-split, one-round, slotOf-parts, chained-covering}
 
--- 1 if a decilitre at offset x splits a bucket of level i, else 0
-abbrev pub splitsOne : ℕ → ℕ → List Bucket → ℕ
-splitsOne i x [] = 0
-splitsOne i x (b ∷ bs) = cond (holds b x) (cond (eqb (suc (b .weight)) (2 ^ suc i) && ltb 1 (b .width)) 1 0) (splitsOne i x bs)
+-- level 0 never splits
+pub single-splits : (n x v : ℕ) (l : Level) → insertSplits n 0 x v l ≡ 0
+unfolding insertSplits
+single-splits n x zero l = refl
+single-splits n x (suc v) l = go (ltb x (insert n 0 x v l .first)) (single-splits n x v l)
+  where
+    go : (t : Bool) → insertSplits n 0 x v l ≡ 0 → insertSplits n 0 x v l + cond t 0 0 ≡ 0
+    go true more = omega (arith, more)
+    go false more = omega (arith, more)
 
--- how many of v decilitres split a bucket, one after another
-abbrev pub splitsAll : ℕ → ℕ → ℕ → ℕ → Level → ℕ
-splitsAll n i x zero l = 0
-splitsAll n i x (suc v) l = splitsAll n i x v l + cond (ltb x (insert n i x v l .first)) 0 (splitsOne i x (insert n i x v l .buckets))
+-- from level 1 on a decilitre is counted by `addSplits`
+grow-upper : (i x : ℕ) (bs : List Bucket) → 0 < i → growSplits i x bs ≡ addSplits i x bs
+grow-upper zero x bs low = absurd (omega arith)
+grow-upper (suc j) x bs low = refl
 
 module _ (n i x : ℕ) where
-  splits-add : (v w : ℕ) (l : Level) → splitsAll n i x (v + w) l ≡ splitsAll n i x v l + splitsAll n i x w (insert n i x v l)
+  splits-add : (v w : ℕ) (l : Level) → insertSplits n i x (v + w) l ≡ insertSplits n i x v l + insertSplits n i x w (insert n i x v l)
+  unfolding insertSplits
   splits-add v zero l = rw (add-zero v) (omega arith)
   splits-add v (suc w) l = rw (add-suc, insert-add n i x v w l) (omega (arith, splits-add v w l))
 
-  splits-below : (v : ℕ) (l : Level) → x < l .first → splitsAll n i x v l ≡ 0
+  pub splits-below : (v : ℕ) (l : Level) → x < l .first → insertSplits n i x v l ≡ 0
+  unfolding insertSplits
   splits-below zero l h = refl
   splits-below (suc v) l h = rw (insert-below n i x v l h, lt-ltb x (l .first) h) (omega (arith, splits-below v l h))
 
-  splits-past : (before : List Bucket) → Uncovered x before → (rest : List Bucket) → splitsOne i x (before ++ rest) ≡ splitsOne i x rest
+  splits-past : (before : List Bucket) → Uncovered x before → (rest : List Bucket) → addSplits i x (before ++ rest) ≡ addSplits i x rest
   splits-past [] u rest = refl
   splits-past (c ∷ before) u rest = rw (u .0) (splits-past before (u .1) rest)
 
 -- the bucket that spans x can be halved `size` times
-record Halvable (n i x f : ℕ) (before : List Bucket) (b : Bucket) (after : List Bucket) (size : ℕ) : Type 0 where
+pub record Halvable (n i x f : ℕ) (before : List Bucket) (b : Bucket) (after : List Bucket) (size : ℕ) : Type 0 where
   pub kept : f ≤ x
   pub passed : Passed x before
   pub low : b .offset ≤ x
@@ -53,44 +61,60 @@ record Halvable (n i x f : ℕ) (before : List Bucket) (b : Bucket) (after : Lis
 
 module _ (n i x : ℕ) (from : 0 < i) where
   module _ {f : ℕ} {before : List Bucket} {b : Bucket} {after : List Bucket} {size : ℕ} (h : Halvable n i x f before b after size) where
-    level : Level
+    abbrev level : Level
     level = levelOf f (before ++ b ∷ after)
 
-    -- what one more decilitre does after v
-    one-more : (v : ℕ) → (1 < b .width → b .weight + v < 2 ^ suc i) → (P : ℕ → Type 0)
-        → (suc (b .weight + v) ≡ 2 ^ suc i → 1 < b .width → P (splitsAll n i x v level + 1)) → P (splitsAll n i x v level + 0) → P (splitsAll n i x (suc v) level)
-    unfolding level
-    one-more v room P fills stays =
-        rw (
-          upper-held n x f (h .kept) before (h .passed) b (h .low) (h .high) after (h .few) i from v room,
-          le-ltb x f (h .kept),
-          splits-past n i x before (passed-uncovered x before (h .passed)) (raised v b ∷ after),
-          holds-inside b x (h .low) (h .high),
-        )
-        (by-both (λ z. P (splitsAll n i x v level + z)) (eqb (suc (b .weight + v)) (2 ^ suc i)) (ltb 1 (b .width))
-        (λ full long. fills (eqb→eq (suc (b .weight + v)) (2 ^ suc i) full) (ltb→lt 1 (b .width) long)) (λ _. stays))
+    -- what one more decilitre splits after v
+    counted : (v : ℕ) → (1 < b .width → b .weight + v < 2 ^ suc i) → insertSplits n i x (suc v) level ≡ insertSplits n i x v level + splitCount i (gained (raised v b))
+    unfolding insertSplits
+    counted v room = rw (
+      upper-held n x f (h .kept) before (h .passed) b (h .low) (h .high) after (h .few) i from v room,
+      le-ltb x f (h .kept),
+      grow-upper i x (before ++ raised v b ∷ after) from,
+      splits-past n i x before (passed-uncovered x before (h .passed)) (raised v b ∷ after),
+      holds-inside b x (h .low) (h .high),
+    )
 
-    none : (v : ℕ) → (1 < b .width → b .weight + v < 2 ^ suc i) → splitsAll n i x v level ≡ 0
+    -- the bucket does not get full
+    pub none : (v : ℕ) → (1 < b .width → b .weight + v < 2 ^ suc i) → insertSplits n i x v level ≡ 0
+    unfolding insertSplits
     none zero room = refl
     none (suc v) room =
         let less : 1 < b .width → b .weight + v < 2 ^ suc i = λ long. omega (arith, room long) in
-        one-more v less (λ z. z ≡ 0) (λ full long. absurd (omega (arith, room long))) (omega (arith, none v less))
+        let before-it = none v less in
+        counted v less
+        ∙ by-both (λ z. insertSplits n i x v level + z ≡ 0) (eqb (suc (b .weight + v)) (2 ^ suc i)) (ltb 1 (b .width))
+        (λ full long. absurd (omega (arith, eqb→eq (suc (b .weight + v)) (2 ^ suc i) full, room (ltb→lt 1 (b .width) long)))) (λ _. omega (arith, before-it))
 
     -- the decilitre that fills the bucket splits it
-    filling : (v : ℕ) → 1 < b .width → suc (b .weight + v) ≡ 2 ^ suc i → splitsAll n i x (suc v) level ≤ 1
+    filling : (v : ℕ) → 1 < b .width → suc (b .weight + v) ≡ 2 ^ suc i → insertSplits n i x (suc v) level ≡ 1
+    unfolding insertSplits
     filling v long full =
         let room : 1 < b .width → b .weight + v < 2 ^ suc i = λ _. omega arith in
-        one-more v room (λ z. z ≤ 1) (λ _ _. omega (arith, none v room)) (omega (arith, none v room))
+        counted v room ∙ rw (none v room, eq-eqb (suc (b .weight + v)) (2 ^ suc i) full, lt-ltb 1 (b .width) long)
 
     filled : (v : ℕ) → 1 < b .width → suc (b .weight + v) ≡ 2 ^ suc i → insert n i x (suc v) level ≡ evict n i f (before ++ (halves i b ++ after))
-    unfolding insert level
+    unfolding insert
     filled v long full =
         let left : b .weight + suc v - 2 ^ suc i ≡ 0 = omega arith in
         rw left at (upper-split n x f (h .kept) before (h .passed) b (h .low) (h .high) after (h .few) i from (suc v) long (h .light long) (omega arith))
 
+    -- the bucket gets full: that is one split, and the rest makes those that it makes after it
+    pub cut-splits : (v : ℕ) → 1 < b .width → 2 ^ suc i ≤ b .weight + v
+        → insertSplits n i x v level ≡ suc (insertSplits n i x (b .weight + v - 2 ^ suc i) (evict n i f (before ++ (halves i b ++ after))))
+    cut-splits v long full =
+        let light = h .light long in
+        let first : ℕ = 2 ^ suc i - b .weight - 1 in
+        let rest : ℕ = b .weight + v - 2 ^ suc i in
+        let parts : v ≡ suc first + rest = omega arith in
+        let done : suc (b .weight + first) ≡ 2 ^ suc i = omega arith in
+        ap (λ (z : ℕ). insertSplits n i x z level) parts
+        ∙ splits-add n i x (suc first) rest level
+        ∙ rw (filling first long done, filled first long done) (omega arith)
+
     -- what a split leaves is split less often: x is in a half, or below F
     module _ (less : ℕ) (power : size ≡ suc less)
-        (again : (v f : ℕ) (before : List Bucket) (b : Bucket) (after : List Bucket) → Halvable n i x f before b after less → splitsAll n i x v (levelOf f (before ++ b ∷ after)) ≤ less) where
+        (again : (v f : ℕ) (before : List Bucket) (b : Bucket) (after : List Bucket) → Halvable n i x f before b after less → insertSplits n i x v (levelOf f (before ++ b ∷ after)) ≤ less) where
       abbrev half : ℕ
       half = b .width / 2
 
@@ -104,12 +128,12 @@ module _ (n i x : ℕ) (from : 0 < i) where
       width-is = omega (arith, h .power, ap (λ (z : ℕ). 2 ^ z) power, pow-suc 2 less)
 
       half-again : (v f : ℕ) (before : List Bucket) (a : ℕ) (after : List Bucket) → f ≤ x → Passed x before → a ≤ x → x < a + half
-          → length before + suc (length after) ≤ n → splitsAll n i x v (levelOf f (before ++ bucketOf a half (2 ^ i) ∷ after)) ≤ less
+          → length before + suc (length after) ≤ n → insertSplits n i x v (levelOf f (before ++ bucketOf a half (2 ^ i) ∷ after)) ≤ less
       half-again v f before a after kept passed low high few =
           again v f before (bucketOf a half (2 ^ i)) after
           (record { kept = kept; passed = passed; low = low; high = high; few = few; power = omega (arith, width-is); light = λ _. omega (arith, pow-pos i) })
 
-      onward : (v up : ℕ) (l : Level) → Round n x lower higher after up l → splitsAll n i x v l ≤ less
+      onward : (v up : ℕ) (l : Level) → Round n x lower higher after up l → insertSplits n i x v l ≤ less
       onward v up l (both f before same place few passed kept) =
           rw same
           (⊎-elim
@@ -126,28 +150,23 @@ module _ (n i x : ℕ) (from : 0 < i) where
           (λ (above : b .offset + half ≤ x). half-again v (b .offset + half) [] (b .offset + half) after above tt above (omega (arith, h .high, width-is)) (omega arith))
           (lt-or-ge x (b .offset + half)))
 
-  splits-most : (size v f : ℕ) (before : List Bucket) (b : Bucket) (after : List Bucket) → Halvable n i x f before b after size
-      → splitsAll n i x v (levelOf f (before ++ b ∷ after)) ≤ size
-  unfolding level
+  pub splits-most : (size v f : ℕ) (before : List Bucket) (b : Bucket) (after : List Bucket) → Halvable n i x f before b after size
+      → insertSplits n i x v (levelOf f (before ++ b ∷ after)) ≤ size
   splits-most zero v f before b after h = omega (arith, none h v (λ long. absurd (omega (arith, h .power))))
   splits-most (suc size) v f before b after h =
       ⊎-elim
       (λ (room : b .weight + v < 2 ^ suc i). omega (arith, none h v (λ _. room)))
       (λ (full : 2 ^ suc i ≤ b .weight + v).
       let long : 1 < b .width = omega (arith, h .power, pow-suc 2 size, pow-pos size) in
-      let light = h .light long in
-      let first : ℕ = 2 ^ suc i - b .weight - 1 in
       let rest : ℕ = b .weight + v - 2 ^ suc i in
-      let parts : v ≡ suc first + rest = omega arith in
-      let done : suc (b .weight + first) ≡ 2 ^ suc i = omega arith in
       let left = one-round n x f (h .kept) before (h .passed) b (h .low) (h .high) after (h .few) i from (lower h size refl (splits-most size)) (higher h size refl (splits-most size)) (h .low) in
-      rw (parts, splits-add n i x (suc first) rest (levelOf f (before ++ b ∷ after)), filled h first long done)
-      (omega (arith, filling h first long done, onward h size refl (splits-most size) rest _ _ left)))
+      rw (cut-splits h v long full) (omega (arith, onward h size refl (splits-most size) rest _ _ left)))
       (lt-or-ge (b .weight + v) (2 ^ suc i))
 
--- a delivery into a sound level from 1 splits at most k buckets
-pub level-splits : (k n j total x v : ℕ) (l : Level) → x < 2 ^ k → SoundLevel k n (suc j) total l → splitsAll n (suc j) x v l ≤ k
-level-splits k n j total x v l inside s =
+-- an insertion into a sound level splits at most k buckets
+pub level-splits : (k n i total x v : ℕ) (l : Level) → x < 2 ^ k → SoundLevel k n i total l → insertSplits n i x v l ≤ k
+level-splits k n zero total x v l inside s = omega (arith, single-splits n x v l)
+level-splits k n (suc j) total x v l inside s =
     ⊎-elim
     (λ (below : x < l .first). omega (arith, splits-below n (suc j) x v l below))
     (λ (kept : l .first ≤ x).

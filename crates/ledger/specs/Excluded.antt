@@ -65,7 +65,7 @@ constant c (sum ∷ more) = c ∷ []
 abbrev constantSum : ℕ → Book
 constantSum c ws call =
     let done = perform ws call in
-    outcomeOf (record { number = done .reply .number; values = constant c (done .reply .values) }) (done .left)
+    outcomeOf (record { number = done .reply .number; values = constant c (done .reply .values); splits = done .reply .splits }) (done .left)
 
 -- without deliveries the sum is 0, and after one decilitre 0 is wrong
 pub constant-excluded : (c : ℕ) → ClaimOf (constantSum c) → ⊥

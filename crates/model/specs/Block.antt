@@ -4,7 +4,7 @@ use mathlib.Core.List.{List, [], _∷_}
 use Prim.Native.Nat.{ℕ, zero, suc, _+_, _-_, _/_, _%_, _^_}
 use lib.Dec.{leb, eqb}
 use Rattle.shape.specs.declared.Shape.{Shape}
-use Rattle.model.specs.Level.{Bucket, Level, levelOf, insert, emptyLevel}
+use Rattle.model.specs.Level.{Bucket, Level, levelOf, insert, insertSplits, emptyLevel}
 
 pub record Half : Type 0 where  -- SPECIFICATION 3.4: the total and the levels of one interval
   pub total : ℕ
@@ -51,6 +51,13 @@ deliverHalf s x v h = record { total = h .total + v; levels = insertAll (s .n) 0
 
 unfoldable pub deliver : Shape → ℕ → ℕ → Block → Block  -- SPECIFICATION 5.4: a delivery goes into the half of its stamp's interval
 deliver s stamp v b = let j = interval s stamp in withHalf j (deliverHalf s (offsetOf s stamp) v (halfOf j b)) b
+
+abbrev pub insertAllSplits : ℕ → ℕ → ℕ → ℕ → List Level → ℕ  -- SPECIFICATION 4.6: how many buckets `insertAll` splits, over all these levels
+insertAllSplits n i x v [] = 0
+insertAllSplits n i x v (l ∷ ls) = insertSplits n i x v l + insertAllSplits n (suc i) x v ls
+
+unfoldable pub deliverSplits : Shape → ℕ → ℕ → Block → ℕ  -- SPECIFICATION 5.4: how many buckets `deliver` splits, in the half of the stamp's interval
+deliverSplits s stamp v b = insertAllSplits (s .n) 0 (offsetOf s stamp) v (halfOf (interval s stamp) b .levels)
 
 abbrev pub empties : ℕ → ℕ → ℕ → Bool  -- SPECIFICATION 5.3: whether the clock empties the half of j. In the same interval none, in the next that of its parity, later both
 empties from to j = cond (eqb to from) false (cond (eqb to (from + 1)) (eqb (j % 2) (to % 2)) true)

@@ -33,6 +33,9 @@ holds b x = leb (b .offset) x && ltb x (b .offset + b .width)
 abbrev pub isFull : ℕ → Bucket → Bool  -- SPECIFICATION 4.3: after a gain at level i, the bucket has reached 2^(i+1) and is wider than 1
 isFull i b = eqb (b .weight) (2 ^ suc i) && ltb 1 (b .width)
 
+abbrev pub splitCount : ℕ → Bucket → ℕ  -- SPECIFICATION 4.6: how many splits that is; `split` below makes the same test
+splitCount i b = cond (isFull i b) 1 0
+
 abbrev pub split : ℕ → Bucket → List Bucket  -- SPECIFICATION 4.3 ('halve' in the customer's paper): at level i a full bucket becomes two, each of half the width and of weight 2^i
 split i b =
     let half = b .width / 2 in
@@ -61,6 +64,23 @@ unit n i x l = cond (ltb x (l .first)) l (evict n i (l .first) (grow i x (l .buc
 unfoldable pub insert : ℕ → ℕ → ℕ → ℕ → Level → Level  -- SPECIFICATION 4.5 ('pour' in the customer's paper): v decilitres at offset x, one after another
 insert n i x zero l = l
 insert n i x (suc v) l = unit n i x (insert n i x v l)
+
+-- SPECIFICATION 4.6 ('halvings' in the customer's paper): how many buckets `add`, `grow`, `unit` and `insert` split, each read off the same level
+
+abbrev pub addSplits : ℕ → ℕ → List Bucket → ℕ
+addSplits i x [] = 0
+addSplits i x (b ∷ bs) = cond (holds b x) (splitCount i (gained b)) (addSplits i x bs)
+
+abbrev pub growSplits : ℕ → ℕ → List Bucket → ℕ  -- level 0 never splits
+growSplits zero x bs = 0
+growSplits (suc j) x bs = addSplits (suc j) x bs
+
+abbrev pub unitSplits : ℕ → ℕ → Level → ℕ  -- below F the decilitre is ignored
+unitSplits i x l = cond (ltb x (l .first)) 0 (growSplits i x (l .buckets))
+
+unfoldable pub insertSplits : ℕ → ℕ → ℕ → ℕ → Level → ℕ  -- v decilitres, one after another, each into the level that those before it left
+insertSplits n i x zero l = 0
+insertSplits n i x (suc v) l = insertSplits n i x v l + unitSplits i x (insert n i x v l)
 
 abbrev pub emptyLevel : ℕ → ℕ → Level  -- SPECIFICATION 3.7: level i of an empty half of 2^k ticks
 emptyLevel k zero = levelOf 0 []

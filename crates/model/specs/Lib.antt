@@ -11,4 +11,5 @@ pub mod Replay
 pub mod Ledger
 pub mod Claim
 pub mod Table
+pub mod SplitsTable
 pub mod TraceTable

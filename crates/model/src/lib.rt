@@ -26,8 +26,9 @@ pub enum Refusal {
 }
 
 pub enum Answer {
-    Done,
-    Sum(u64),
+    Done, // A make, a clock or a replay.
+    Inserted(u32), // A delivery: how many buckets it split.
+    Sum(u64), // A question.
     Refused(Refusal),
 }
 

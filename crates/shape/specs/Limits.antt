@@ -7,18 +7,23 @@ use Rattle.shape.specs.declared.Shape.{Shape}
 use Rattle.shape.specs.declared.Checked.{Checked}
 use Rattle.shape.specs.declared.Checked.the-variants.{Within, Outside}
 
--- SPECIFICATION 5.1, a reply: the number of the refusal, 0 where accepted, and the values that come with it
+-- SPECIFICATION 5.1, a reply: the number of the refusal, 0 where accepted, the values that come with it, and how many buckets were split
 pub record Reply : Type 0 where
   pub number : ℕ
   pub values : List ℕ
+  pub splits : ℕ
 
 -- refused under a number
 abbrev pub refused : ℕ → Reply
-refused number = record { number = number; values = [] }
+refused number = record { number = number; values = []; splits = 0 }
 
--- accepted, with these values
+-- accepted, with these values; nothing was split
 abbrev pub accepted : List ℕ → Reply
-accepted values = record { number = 0; values = values }
+accepted values = record { number = 0; values = values; splits = 0 }
+
+-- accepted, with no values; so many buckets were split
+abbrev pub inserted : ℕ → Reply
+inserted splits = record { number = 0; values = []; splits = splits }
 
 -- x lies between two limits, both included
 abbrev pub between : ℕ → ℕ → ℕ → Bool

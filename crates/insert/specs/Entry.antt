@@ -10,11 +10,12 @@ use lib.ListN.{length, getD, set}
 use lib.Pow.{pow-mono}
 use Rattle.shape.specs.declared.Shape.{Shape}
 use Rattle.shape.specs.Layout.{slotStart}
-use Rattle.model.specs.Level.{Bucket, bucketOf, levelOf, insert}
+use Rattle.model.specs.Level.{Bucket, bucketOf, levelOf, insert, insertSplits}
 use Rattle.model.specs.Words.{slot, decodeLevel, encodeLevel}
 use Rattle.model.specs.Sound.{weightOf}
 use Rattle.laws.specs.Cond.{eq-or-ne}
 use Rattle.laws.specs.Insert.{Under, Over, insert-below, insert-put, insert-new}
+use Rattle.laws.specs.Splits.{splits-below, level-splits}
 use Rattle.laws.specs.LevelWords.{length-slots, encode-decode-sound}
 use Rattle.laws.specs.LevelWrites.{slot-encode, set-weight}
 use Rattle.laws.specs.SlotOf.{slotOf, EndsRise, sound-rises}
@@ -48,6 +49,13 @@ module _ {s : Shape} {i x v : ℕ} {ws : List ℕ} (o : Insertable s i x v ws) w
   pub below : x < getD ws 1 0 → ws ≡ encodeLevel (s .n) (insert (s .n) i x v (decodeLevel ws))
   unfolding decodeLevel
   below h = held ∙ ap (encodeLevel (s .n)) (sym (insert-below (s .n) i x v (decodeLevel ws) h))
+
+  pub below-splits : x < getD ws 1 0 → insertSplits (s .n) i x v (decodeLevel ws) ≡ 0
+  unfolding decodeLevel
+  below-splits h = splits-below (s .n) i x v (decodeLevel ws) h
+
+  pub splits-within : insertSplits (s .n) i x v (decodeLevel ws) ≤ s .k
+  splits-within = level-splits (s .k) (s .n) i (o .total) x v (decodeLevel ws) (o .inside) sound
 
   pub small : x < 2 ^ 20
   small = omega (arith, o .inside, pow-mono {i = s .k} {j = 20} (o .proper .limits .high-k))

@@ -9,7 +9,7 @@ use borrow.Author.Tests.{ltb-true, leb-true, leb-false, lt-ltb}
 use lib.Dec.{leb, ltb}
 use lib.ListN.{length}
 use Rattle.shape.specs.LimitsLaws.{both}
-use Rattle.model.specs.Level.{Bucket, levelOf, evict, insert}
+use Rattle.model.specs.Level.{Bucket, levelOf, evict, insert, insertSplits}
 use Rattle.model.specs.Words.{slot, decodeLevel, encodeLevel}
 use Rattle.laws.specs.Bucket.{halves}
 use Rattle.insert.specs.declared.Onward.{Onward}
@@ -31,11 +31,12 @@ module _ (i v : ℕ) (b : Bucket) where
   has-room e long = leb-false (2 ^ suc i) (b .weight + v) (rw (lt-ltb 1 (b .width) long) at e)
 
 -- The bucket of slot j was filled with a part of v and split, so its two halves stand in its place. Inserting the rest now is inserting v
--- before. The half that spans x takes the rest, or it was evicted and nothing is left to do.
+-- before, with one split less. The half that spans x takes the rest, or it was evicted and nothing is left to do.
 pub record Continues (n i x v j : ℕ) (ws ws′ : List ℕ) (r : Onward) : Type 0 where
   pub part : slot ws j .weight + v ≡ 2 ^ suc i + r .rest
   pub words : (f : ℕ) (before after : List Bucket) → length before ≡ j → ws ≡ encodeLevel n (levelOf f (before ++ slot ws j ∷ after))
       → ws′ ≡ encodeLevel n (evict n i f (before ++ (halves i (slot ws j) ++ after)))
   pub same : insert n i x (r .rest) (decodeLevel ws′) ≡ insert n i x v (decodeLevel ws)
+  pub count : insertSplits n i x v (decodeLevel ws) ≡ suc (insertSplits n i x (r .rest) (decodeLevel ws′))
   pub goes-on : r .kept ≡ true → (slot ws′ (r .slot) .width < slot ws j .width) × Ready n i x (r .rest) (r .slot) ws′
-  pub ends : r .kept ≡ false → ws′ ≡ encodeLevel n (insert n i x v (decodeLevel ws))
+  pub ends : r .kept ≡ false → (ws′ ≡ encodeLevel n (insert n i x v (decodeLevel ws))) × (insertSplits n i x (r .rest) (decodeLevel ws′) ≡ 0)

@@ -1,23 +1,30 @@
 -- A level from 1 whose bucket of slot j spans offset x and takes v, and what is left to do once that bucket is split: the rest goes into the
 -- half that spans x, which is half as wide. Rests on the laws of one round.
 use mathlib.Core.Bool.{cond}
+use mathlib.Core.Logic.{⊎-elim}
 use mathlib.Core.List.{List, [], _∷_, _++_, append-assoc}
 use mathlib.Core.Path.{_≡_, refl, sym, ap, subst, _∙_}
 use Prim.Native.Nat.{ℕ, suc, _+_, _-_, _/_, _^_, _≤_, _<_}
 use native.Mathlib.Omega.{arith}
 use lib.Dec.{ltb}
 use lib.ListN.{length, getD, set, length-append}
-use lib.Pow.{pow-pos}
+use lib.Pow.{pow-pos, pow-mono}
 use Rattle.shape.specs.Layout.{slotStart}
-use Rattle.model.specs.Level.{Bucket, Level, bucketOf, levelOf, evict, insert}
+use Rattle.model.specs.Level.{Bucket, Level, bucketOf, levelOf, evict, insert, insertSplits}
 use Rattle.model.specs.Words.{slot, decodeLevel, encodeLevel}
+use Rattle.laws.specs.Cond.{lt-or-ge}
 use Rattle.laws.specs.Bucket.{halves}
 use Rattle.laws.specs.Add.{Halved, halved}
 use Rattle.laws.specs.Insert.{insert-below}
+use Rattle.laws.specs.Splits.{Halvable, splits-below, none, cut-splits, splits-most}
 use Rattle.laws.specs.LevelWords.{decode-encode}
 use Rattle.laws.specs.LevelWrites.{slot-encode, set-weight}
 use Rattle.laws.specs.Evict.{count-parts, Passed, passed-snoc, Round, both, upper, upper-held, upper-split, one-round}
 use Rattle.buckets.specs.Steps.{Takes, takes-at, Becomes}
+
+-- a power of 2 below 2^31
+small-size : (size : ℕ) → 2 ^ size < 2 ^ 31 → size < 31
+small-size size h = ⊎-elim (λ (e : size < 31). e) (λ (e : 31 ≤ size). absurd (omega (arith, pow-mono {i = 31} {j = size} e))) (lt-or-ge size 31)
 
 -- the limits of a level from 1
 pub record Upper (n i : ℕ) : Type 0 where
@@ -81,15 +88,42 @@ module _ {n i x v j : ℕ} {ws : List ℕ} (r : Ready n i x v j ws) where
   pub inside : slotStart (j + 1) ≤ length ws
   inside = omega (arith, r .takes .size, r .count, r .takes .few)
 
+  abbrev level : Level
+  level = levelOf (r .first) (r .before ++ slot ws j ∷ r .after)
+
+  level-is : decodeLevel ws ≡ level
+  level-is = ap decodeLevel (r .held) ∙ decode-encode n level
+
+  -- the width of the bucket can be halved as often as it is a power of 2
+  halvable : Halvable n i x (r .first) (r .before) (slot ws j) (r .after) (r .covers .size)
+  halvable = record {
+    kept = r .kept;
+    passed = r .passed;
+    low = r .covers .low;
+    high = r .covers .high;
+    few = few;
+    power = r .covers .power;
+    light = r .covers .light;
+  }
+
+  -- so the number of splits fits a word
+  pub splits-few : insertSplits n i x v (decodeLevel ws) < 31
+  splits-few =
+      rw level-is
+      (omega (arith, splits-most n i x (r .limits .low) (r .covers .size) v (r .first) (r .before) (slot ws j) (r .after) halvable, small-size (r .covers .size) (omega (arith, r .covers .power, r .covers .end))))
+
+  -- the bucket takes all of v and is not split
+  pub no-splits : (1 < slot ws j .width → slot ws j .weight + v < 2 ^ suc i) → insertSplits n i x v (decodeLevel ws) ≡ 0
+  no-splits room = ap (insertSplits n i x v) level-is ∙ none n i x (r .limits .low) halvable v room
+
   -- the bucket takes all of v
   pub filled : (1 < slot ws j .width → slot ws j .weight + v < 2 ^ suc i)
       → set ws (slotStart j + 2) (slot ws j .weight + v) ≡ encodeLevel n (insert n i x v (decodeLevel ws))
   filled room =
       let b = slot ws j in
-      let level = levelOf (r .first) (r .before ++ b ∷ r .after) in
       let taken = upper-held n x (r .first) (r .kept) (r .before) (r .passed) b (r .covers .low) (r .covers .high) (r .after) few i (r .limits .low) v room in
       ap (λ (z : List ℕ). set z (slotStart j + 2) (b .weight + v)) (r .held) ∙ set-weight n (r .first) (r .before) (r .after) j (r .place) b (b .weight + v)
-      ∙ ap (encodeLevel n) (sym (ap (insert n i x v) (ap decodeLevel (r .held) ∙ decode-encode n level) ∙ taken))
+      ∙ ap (encodeLevel n) (sym (ap (insert n i x v) level-is ∙ taken))
 
 -- ---- the bucket is split
 
@@ -139,11 +173,17 @@ module _ {n i x v j rest : ℕ} {ws ws′ : List ℕ} {up : ℕ} (c : WasSplit n
   -- inserting the rest after the split is inserting v before it
   pub rest-same : insert n i x rest (decodeLevel ws′) ≡ insert n i x v (decodeLevel ws)
   rest-same =
-      let level = levelOf (r .first) (r .before ++ b ∷ r .after) in
       let is : rest ≡ b .weight + v - 2 ^ suc i = omega (arith, c .full) in
       ap (insert n i x rest) (decoded left refl) ∙ ap (λ (z : ℕ). insert n i x z left) is
-      ∙ sym (ap (insert n i x v) (ap decodeLevel (r .held) ∙ decode-encode n level)
+      ∙ sym (ap (insert n i x v) (level-is r)
       ∙ upper-split n x (r .first) (r .kept) (r .before) (r .passed) b (r .covers .low) (r .covers .high) (r .after) (few r) i (r .limits .low) v (c .long) (r .covers .light (c .long)) (omega (arith, c .full)))
+
+  -- that was one split, and the rest makes those that v makes after it
+  pub rest-splits : insertSplits n i x v (decodeLevel ws) ≡ suc (insertSplits n i x rest (decodeLevel ws′))
+  rest-splits =
+      let is : rest ≡ b .weight + v - 2 ^ suc i = omega (arith, c .full) in
+      ap (insertSplits n i x v) (level-is r) ∙ cut-splits n i x (r .limits .low) (halvable r) v (c .long) (omega (arith, c .full))
+      ∙ sym (ap suc (ap (insertSplits n i x rest) (decoded left refl) ∙ ap (λ (z : ℕ). insertSplits n i x z left) is))
 
   -- a half that spans x takes the rest, and is narrower
   half-ready : (f : ℕ) (before : List Bucket) (a : ℕ) (after : List Bucket) (to : ℕ) → left ≡ levelOf f (before ++ bucketOf a half (2 ^ i) ∷ after)
@@ -184,12 +224,15 @@ module _ {n i x v j rest : ℕ} {ws ws′ : List ℕ} {up : ℕ} (c : WasSplit n
           (omega (arith, parts .twice))
       go (upper same none fits) = absurd (omega arith)
 
-  -- the half that spans x was evicted, so the rest is ignored
-  pub lower-evicted : x < b .offset + half → up ≡ 0 → ws′ ≡ encodeLevel n (insert n i x v (decodeLevel ws))
-  lower-evicted h none = go cases
+  -- the half that spans x was evicted, so the rest is ignored and splits nothing
+  pub lower-evicted : x < b .offset + half → up ≡ 0
+      → (ws′ ≡ encodeLevel n (insert n i x v (decodeLevel ws))) × (insertSplits n i x rest (decodeLevel ws′) ≡ 0)
+  lower-evicted h zero-up = go cases
     where
-      go : Round n x lower higher (r .after) up left → ws′ ≡ encodeLevel n (insert n i x v (decodeLevel ws))
+      go : Round n x lower higher (r .after) up left → (ws′ ≡ encodeLevel n (insert n i x v (decodeLevel ws))) × (insertSplits n i x rest (decodeLevel ws′) ≡ 0)
       go (both f before same place fits passed kept) = absurd (omega arith)
-      go (upper same zero-up fits) =
-          let l = levelOf (b .offset + half) (higher ∷ r .after) in
-          words ∙ ap (encodeLevel n) (same ∙ sym (insert-below n i x rest l h) ∙ sym (ap (insert n i x rest) (decoded l same)) ∙ rest-same)
+      go (upper same _ fits) =
+          let l = levelOf (b .offset + half) (higher ∷ r .after) in (
+            words ∙ ap (encodeLevel n) (same ∙ sym (insert-below n i x rest l h) ∙ sym (ap (insert n i x rest) (decoded l same)) ∙ rest-same),
+            ap (insertSplits n i x rest) (decoded l same) ∙ splits-below n i x rest l h,
+          )

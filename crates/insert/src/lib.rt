@@ -14,7 +14,7 @@ ghost use mathlib.Core.Path.{_≡_};
 ghost use Prim.Native.Nat.{_+_, _^_, _<_, _≤_};
 ghost use lib.ListN.{length, getD};
 ghost use Rattle.shape.specs.Layout.{slotStart};
-ghost use Rattle.model.specs.Level.{insert};
+ghost use Rattle.model.specs.Level.{insert, insertSplits};
 ghost use Rattle.model.specs.Words.{slot, decodeLevel, encodeLevel};
 ghost use Rattle.laws.specs.Proper.{Insertable};
 ghost use Rattle.insert.specs.Ready.{Ready};
@@ -77,22 +77,26 @@ fn split(level: &mut [u32], n: usize, i: u8, x: u32, v: u64, j: usize) -> Onward
 // Level i from 1: inserts v at offset x into the bucket of slot j, which spans x (document 01's 'pour', bucket by bucket). As long as the
 // bucket gets full it is split, and the rest goes into the half that spans x. If that half was evicted, the rest is ignored. What is left to
 // insert (`rest`), the slot of its bucket (`slot`) and the level (`level`, of number `i`) are variables of this one function, so that a
-// debugger which shows a single frame has all of them.
-fn insert_splitting(level: &mut [u32], n: usize, i: u8, x: u32, v: u64, j: usize)
+// debugger which shows a single frame has all of them. Returns the number of splits; that which evicts the half of x is one of them.
+fn insert_splitting(level: &mut [u32], n: usize, i: u8, x: u32, v: u64, j: usize) -> u32
     requires { ⌜ Ready n i x v j (now level) ⌝ }
-    ensures { λ _. ⌜ now (level .exit) ≡ encodeLevel n (insert n i x v (decodeLevel (now (level .entry)))) ⌝ }
+    ensures words { λ _. ⌜ now (level .exit) ≡ encodeLevel n (insert n i x v (decodeLevel (now (level .entry)))) ⌝ }
+    ensures count { λ r. ⌜ r ≡ insertSplits n i x v (decodeLevel (now (level .entry))) ⌝ }
 {
     let mut rest = v;
     let mut slot = j;
+    let mut splits: u32 = 0;
     while gets_full(&level[..], i, rest, slot) {
         let next = split(level, n, i, x, rest, slot);
+        splits += 1;
         if !next.kept {
-            return;
+            return splits;
         }
         rest = next.rest;
         slot = next.slot;
     }
     gain(level, slot, rest);
+    splits
 }
 
 // Whether slot j has the bucket of offset x.
@@ -119,18 +123,21 @@ fn insert_single(level: &mut [u32], s: Shape, x: u32, v: u64)
     put_at(level, s.n as usize, 0, j, x, 1, v as u32);
 }
 
-// Inserts v decilitres at offset x into level i (document 01's 'pour'). Below F they are ignored.
-pub fn insert(level: &mut [u32], s: Shape, i: u8, x: u32, v: u64)
+// Inserts v decilitres at offset x into level i (document 01's 'pour'). Below F they are ignored. Returns the number of splits (document 02's
+// 'halvings'): those that the decilitres make one after another, at most k. Level 0 makes none.
+pub fn insert(level: &mut [u32], s: Shape, i: u8, x: u32, v: u64) -> u32
     requires { ⌜ Insertable s i x v (now level) ⌝ }
-    ensures { λ _. ⌜ now (level .exit) ≡ encodeLevel (s .n) (insert (s .n) i x v (decodeLevel (now (level .entry)))) ⌝ }
+    ensures words { λ _. ⌜ now (level .exit) ≡ encodeLevel (s .n) (insert (s .n) i x v (decodeLevel (now (level .entry)))) ⌝ }
+    ensures count { λ r. ⌜ r ≡ insertSplits (s .n) i x v (decodeLevel (now (level .entry))) ⌝ }
+    ensures most { λ r. ⌜ r ≤ s .k ⌝ }
 {
     if x < level[1] {
-        return;
+        return 0;
     }
     if i == 0 {
         insert_single(level, s, x, v);
-        return;
+        return 0;
     }
     let j = find(level, x);
-    insert_splitting(level, s.n as usize, i, x, v, j);
+    insert_splitting(level, s.n as usize, i, x, v, j)
 }

@@ -6,7 +6,7 @@ use Prim.Native.Nat.{_+_, _-_, _*_}
 use native.Mathlib.Omega.{arith}
 use borrow.Author.Needs.{needs}
 use Rattle.model.specs.Words.{slot}
-use Rattle.insert.specs.Ready.{WasSplit, rest-same, next-upper, next-lower, lower-evicted}
+use Rattle.insert.specs.Ready.{WasSplit, rest-same, rest-splits, next-upper, next-lower, lower-evicted}
 use Rattle.insert.specs.Loop.{full}
 use Rattle.insert.proofs.split.Statement.{statement}
 use Rattle.insert.proofs.split.Tie as tie
@@ -85,7 +85,7 @@ same-length c = search needs
 returns : tie.Need-returns
 returns c =
     let a = was-split (c .before .before .before) in
-    record { part = a .full; words = a .split .words; same = rest-same a; goes-on = λ _. next-upper a (c .if1 .taken); ends = λ e. absurd (true≢false e) }
+    record { part = a .full; words = a .split .words; same = rest-same a; count = rest-splits a; goes-on = λ _. next-upper a (c .if1 .taken); ends = λ e. absurd (true≢false e) }
 
 same-length-2 : tie.Need-same-length-2
 same-length-2 c = search needs
@@ -93,7 +93,7 @@ same-length-2 c = search needs
 returns-2 : tie.Need-returns-2
 returns-2 c =
     let a = was-split (c .before .before .before .before) in
-    record { part = a .full; words = a .split .words; same = rest-same a; goes-on = λ e. absurd (true≢false (sym e)); ends = λ _. lower-evicted a (c .before .if1 .left) (c .if2 .taken) }
+    record { part = a .full; words = a .split .words; same = rest-same a; count = rest-splits a; goes-on = λ e. absurd (true≢false (sym e)); ends = λ _. lower-evicted a (c .before .if1 .left) (c .if2 .taken) }
 
 sub-lower : tie.Need-sub-lower
 sub-lower c = search needs
@@ -104,7 +104,7 @@ same-length-3 c = search needs
 returns-3 : tie.Need-returns-3
 returns-3 c =
     let a = was-split (c .before .before .before .before) in
-    record { part = a .full; words = a .split .words; same = rest-same a; goes-on = λ _. next-lower a (c .before .if1 .left) (omega arith); ends = λ e. absurd (true≢false e) }
+    record { part = a .full; words = a .split .words; same = rest-same a; count = rest-splits a; goes-on = λ _. next-lower a (c .before .if1 .left) (omega arith); ends = λ e. absurd (true≢false e) }
 
 pub split-spec : {M : Type 1} → statement M
 split-spec =

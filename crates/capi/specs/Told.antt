@@ -9,6 +9,9 @@ use Rattle.model.specs.Replay.{Replayed}
 abbrev pub codeOf : Outcome (List ℕ) → ℕ × List ℕ  -- SPECIFICATION 12: the number of the reply, 0 where accepted, and the words afterwards
 codeOf o = (o .reply .number, o .left)
 
+abbrev pub deliveryOf : Outcome (List ℕ) → ℕ × List ℕ × ℕ  -- SPECIFICATION 12: the same, and the splits
+deliveryOf o = (o .reply .number, o .left, o .reply .splits)
+
 abbrev pub sumOf : Reply → ℕ → ℕ × ℕ  -- SPECIFICATION 12: the number, and what the variable for the sum holds afterwards: the sum, or what it held before
 sumOf r held = (r .number, getD (r .values) 0 held)
 

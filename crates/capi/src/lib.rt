@@ -13,7 +13,7 @@ ghost use Rattle.model.specs.declared.Call.the-variants as Call;
 ghost use Rattle.model.specs.Calls.{perform};
 ghost use Rattle.model.specs.Trace.{dayReply};
 ghost use Rattle.model.specs.Replay.{replay};
-ghost use Rattle.capi.specs.Told.{codeOf, sumOf, placeOf, replayOf};
+ghost use Rattle.capi.specs.Told.{codeOf, deliveryOf, sumOf, placeOf, replayOf};
 
 // How many words a book of this shape needs; 0 if the shape is outside its limits.
 #[no_mangle]
@@ -40,11 +40,20 @@ pub extern "C" fn litres_clock(book: &mut [u32], clock: u32) -> u32
     codes::answer_number(summary::clock(book, clock))
 }
 
+// `halvings` is always written: the number of splits, 0 if the delivery is refused.
 #[no_mangle]
-pub extern "C" fn litres_delivery(book: &mut [u32], grade: u32, stamp: u32, volume: u32) -> u32
-    ensures { λ r. ⌜ (r, now (book .exit)) ≡ codeOf (perform (now (book .entry)) (Call.Delivery grade stamp volume)) ⌝ }
+pub extern "C" fn litres_delivery(
+    book: &mut [u32],
+    grade: u32,
+    stamp: u32,
+    volume: u32,
+    halvings: &mut u32,
+) -> u32
+    ensures { λ r. ⌜ (r, now (book .exit), now (halvings .exit)) ≡ deliveryOf (perform (now (book .entry)) (Call.Delivery grade stamp volume)) ⌝ }
 {
-    codes::answer_number(summary::delivery(book, grade, stamp, volume))
+    let answer = summary::delivery(book, grade, stamp, volume);
+    *halvings = codes::answer_splits(answer);
+    codes::answer_number(answer)
 }
 
 // `sum` is written only if the question is answered.
@@ -54,6 +63,7 @@ pub extern "C" fn litres_query(book: &[u32], grade: u32, window: u32, sum: &mut 
 {
     match summary::query(book, grade, window) {
         Answer::Done => 0,
+        Answer::Inserted(_) => 0,
         Answer::Sum(total) => {
             *sum = total;
             0

@@ -1,4 +1,4 @@
-// The number of a refusal (SPECIFICATION 6.2) and of an answer (5.1), used by `text`, `replay` and `capi`.
+// The number of a refusal (SPECIFICATION 6.2), and the number and the splits of an answer (5.1), used by `text`, `replay` and `capi`.
 use model::Answer;
 use model::Refusal;
 ghost use mathlib.Core.Path.{_≡_};
@@ -32,7 +32,20 @@ pub fn answer_number(answer: Answer) -> u32
 {
     match answer {
         Answer::Done => 0,
+        Answer::Inserted(_) => 0,
         Answer::Sum(_) => 0,
         Answer::Refused(why) => number(why),
+    }
+}
+
+// 0 of every answer but that to an accepted delivery.
+pub fn answer_splits(answer: Answer) -> u32
+    ensures { λ r. ⌜ r ≡ replyOf answer .splits ⌝ }
+{
+    match answer {
+        Answer::Done => 0,
+        Answer::Inserted(splits) => splits,
+        Answer::Sum(_) => 0,
+        Answer::Refused(_) => 0,
     }
 }

@@ -1,5 +1,5 @@
 -- What a delivery into a block requires, and what it then requires of each level. Rests on the delivery as writes of levels.
-use mathlib.Core.Path.{_≡_, ap}
+use mathlib.Core.Path.{_≡_, sym, ap}
 use mathlib.Core.List.{List}
 use Prim.Native.Nat.{ℕ, suc, _+_, _%_, _^_, _≤_, _<_}
 use native.Mathlib.Omega.{arith}
@@ -7,11 +7,12 @@ use lib.ListN.{getD}
 use lib.Pow.{pow-mono}
 use Rattle.shape.specs.declared.Shape.{Shape}
 use Rattle.shape.specs.Layout.{totalStart}
-use Rattle.model.specs.Level.{insert}
+use Rattle.model.specs.Level.{insert, insertSplits}
 use Rattle.model.specs.Block.{interval, offsetOf}
 use Rattle.model.specs.Words.{levelPart, decodeLevel, encodeLevel}
 use Rattle.laws.specs.BlockWrites.{withLevel}
 use Rattle.laws.specs.Proper.{Insertable, Whole}
+use Rattle.laws.specs.DeliverSplits.{splitsFrom, splitsFrom-step}
 use Rattle.laws.specs.Deliver.{delivering, length-delivering, levelPart-delivering, level-insertable}
 use Rattle.block.specs.Steps.{LevelIn}
 
@@ -51,3 +52,7 @@ module _ (s : Shape) (stamp parity x v : ℕ) (ws : List ℕ) (f : Fills s stamp
   pub level-filled : withLevel s parity i (encodeLevel (s .n) (insert (s .n) i x v (decodeLevel (levelPart s parity i (delivering s stamp v ws i))))) (delivering s stamp v ws i)
       ≡ delivering s stamp v ws (suc i)
   level-filled = rw (f .half, f .place, levelPart-delivering s stamp v ws (t .whole) i low)
+
+  -- its splits and those of the levels after it are those from it on
+  pub level-splits-on : insertSplits (s .n) i x v (decodeLevel (levelPart s parity i (delivering s stamp v ws i))) + splitsFrom s stamp v ws (suc i) ≡ splitsFrom s stamp v ws i
+  level-splits-on = rw (f .half, f .place, levelPart-delivering s stamp v ws (t .whole) i low) (sym (splitsFrom-step s stamp v ws i low))

@@ -15,8 +15,8 @@ use Rattle.model.specs.declared.Call.{Call}
 use Rattle.model.specs.declared.Call.the-variants.{Make, Clock, Delivery, Query}
 use Rattle.model.specs.declared.Refusal.{Refusal}
 use Rattle.model.specs.declared.Refusal.the-variants.{Length}
-use Rattle.model.specs.declared.Answer.the-variants.{Done, Sum, Refused}
-use Rattle.model.specs.Block.{upFrom, interval, advance, deliver, windowSum}
+use Rattle.model.specs.declared.Answer.the-variants.{Done, Inserted, Sum, Refused}
+use Rattle.model.specs.Block.{upFrom, interval, advance, deliver, deliverSplits, windowSum}
 use Rattle.model.specs.Words.{shapeOf, clockOf, blockPart, decodeBlock, encodeBlock, encodeHead, withBlock, join}
 use Rattle.model.specs.Sound.{soundBlock}
 use Rattle.model.specs.Calls.{blockAt, refusals, bookView, outcomeOf, accept, perform, made, clocked, delivered}
@@ -145,10 +145,6 @@ module _ (ws : List ℕ) (s : Shape) (grade stamp volume : ℕ) (same : s ≡ sh
         room = rw (same, ← total-decode (shapeOf ws) (interval (shapeOf ws) stamp) (blockPart (shapeOf ws) grade ws)) (facts-d .room);
       }
 
-  delivered-words : withBlock s grade (encodeBlock s (deliver s stamp volume (decodeBlock s (blockPart s grade ws)))) ws ≡ delivered (shapeOf ws) grade stamp volume ws
-  unfolding delivered
-  delivered-words = rw same
-
 -- ---- question
 
 module _ (ws : List ℕ) (s : Shape) (clock grade window : ℕ) (o : Open ws s clock) (h : firstRefusal ws (Query grade window) ≡ 0) where
@@ -196,8 +192,7 @@ unfolding replyOf
 clocked-outcome ws s clock to o h = ap (outcomeOf (accepted [])) (clocked-swept ws s clock to o h) ∙ sym (accepted-outcome ws (Clock to) h)
 
 pub delivered-outcome : (ws : List ℕ) (s : Shape) (grade stamp volume : ℕ) → s ≡ shapeOf ws → firstRefusal ws (Delivery grade stamp volume) ≡ 0
-    → outcomeOf (replyOf Done) (withBlock s grade (encodeBlock s (deliver s stamp volume (decodeBlock s (blockPart s grade ws)))) ws)
-    ≡ perform ws (Delivery grade stamp volume)
-unfolding replyOf
-delivered-outcome ws s grade stamp volume same h =
-    ap (outcomeOf (accepted [])) (delivered-words ws s grade stamp volume same h) ∙ sym (accepted-outcome ws (Delivery grade stamp volume) h)
+    → let b = decodeBlock s (blockPart s grade ws) in
+    outcomeOf (replyOf (Inserted (deliverSplits s stamp volume b))) (withBlock s grade (encodeBlock s (deliver s stamp volume b)) ws) ≡ perform ws (Delivery grade stamp volume)
+unfolding replyOf delivered
+delivered-outcome ws s grade stamp volume same h = rw same (sym (accepted-outcome ws (Delivery grade stamp volume) h))

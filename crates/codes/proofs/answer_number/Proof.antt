@@ -12,6 +12,9 @@ enum-told c = search needs
 enum-told-2 : tie.Need-enum-told-2
 enum-told-2 c = search needs
 
+enum-told-3 : tie.Need-enum-told-3
+enum-told-3 c = search needs
+
 enum-known-answer : tie.Need-enum-known-answer
 enum-known-answer c = search needs
 
@@ -28,9 +31,13 @@ returns-2 c = ap (λ (a : Answer). replyOf a .number) (sym (c .enum-told2 .given
 
 returns-3 : tie.Need-returns-3
 unfolding replyOf
-returns-3 c = c .number .ensures ∙ ap (λ (a : Answer). replyOf a .number) (sym (c .before .before .answer .given .1))
+returns-3 c = ap (λ (a : Answer). replyOf a .number) (sym (c .enum-told3 .given .1))
+
+returns-4 : tie.Need-returns-4
+unfolding replyOf
+returns-4 c = c .number .ensures ∙ ap (λ (a : Answer). replyOf a .number) (sym (c .before .before .answer .given .1))
 
 pub answer-number-spec : {M : Type 1} → statement M
 answer-number-spec =
     tie.close
-    (tie.spec enum-told enum-told-2 enum-known-answer number-requires returns returns-2 returns-3)
+    (tie.spec enum-told enum-told-2 enum-told-3 enum-known-answer number-requires returns returns-2 returns-3 returns-4)

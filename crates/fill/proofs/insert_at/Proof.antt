@@ -40,7 +40,10 @@ returns c =
     let l = c .before .before .before .before in
     let a = l .before .level-start .result in
     let e = a + l .level-len .result in
-    rw (c .before .before .insert .ensures, post-is a e (l .before .before .before .args .block .now) (omega arith), l .before .level-start .ensures, l .level-len .ensures, add-sub-cancel-left)
+    let done = c .before .before .insert .ensures in (
+      rw (done .0, post-is a e (l .before .before .before .args .block .now) (omega arith), l .before .level-start .ensures, l .level-len .ensures, add-sub-cancel-left),
+      (rw (l .before .level-start .ensures, l .level-len .ensures, add-sub-cancel-left) at (done .1 .0), done .1 .1),
+    )
 
 pub insert-at-spec : {M : Type 1} → statement M
 insert-at-spec =

@@ -8,6 +8,9 @@ use Rattle.replay.proofs.answer_sum.Tie as tie
 enum-told : tie.Need-enum-told
 enum-told c = search needs
 
+enum-told-2 : tie.Need-enum-told-2
+enum-told-2 c = search needs
+
 enum-known-answer : tie.Need-enum-known-answer
 enum-known-answer c = search needs
 
@@ -15,8 +18,8 @@ cast-result : tie.Need-cast-result
 unfolding replyOf
 cast-result c = omega (arith, rw (c .before .answer .given .1) at (c .before .before .before .pre))
 
-enum-told-2 : tie.Need-enum-told-2
-enum-told-2 c = search needs
+enum-told-3 : tie.Need-enum-told-3
+enum-told-3 c = search needs
 
 returns : tie.Need-returns
 unfolding replyOf
@@ -30,7 +33,11 @@ returns-3 : tie.Need-returns-3
 unfolding replyOf
 returns-3 c = search needs
 
+returns-4 : tie.Need-returns-4
+unfolding replyOf
+returns-4 c = search needs
+
 pub answer-sum-spec : {M : Type 1} → statement M
 answer-sum-spec =
     tie.close
-    (tie.spec enum-told enum-known-answer cast-result enum-told-2 returns returns-2 returns-3)
+    (tie.spec enum-told enum-told-2 enum-known-answer cast-result enum-told-3 returns returns-2 returns-3 returns-4)

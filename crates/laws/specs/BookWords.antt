@@ -17,8 +17,9 @@ use Rattle.shape.specs.LimitsLaws.{Limits, both, within-limits}
 use Rattle.shape.specs.Layout.{headLen, blockWords, blockStart, bookWords}
 use Rattle.model.specs.Block.{upFrom}
 use Rattle.model.specs.Words.{blockPart, shapeOf, clockOf, join, encodeHead, withBlock}
-use Rattle.model.specs.Sound.{maxClock, soundHead}
+use Rattle.model.specs.Sound.{maxClock, soundHead, soundBlock}
 use Rattle.laws.specs.Cond.{and-true}
+use Rattle.laws.specs.Proper.{Whole}
 use Rattle.laws.specs.Parts.{EachFrom, length-join, take-drop-join, withPart-join, join-consecutive, take-upFrom, length-withPart, getD-withPart-below, getD-withPart-above, part-withPart, place-next, places-apart}
 
 -- ---- where the blocks start
@@ -164,3 +165,12 @@ module _ (s : Shape) (grade : ℕ) (h : grade < s .g) (ws : List ℕ) (size : le
 
     pub getD-withBlock-above : (i d : ℕ) → blockStart s grade + blockWords s ≤ i → getD (withBlock s grade block ws) i d ≡ getD ws i d
     getD-withBlock-above = getD-withPart-above (blockStart s grade) (blockWords s) block ws fits block-size
+
+-- a block that the check passed, of a book whose head and length it passed
+pub whole-block : (ws : List ℕ) (grade : ℕ) → soundHead ws ≡ true → length ws ≡ bookWords (shapeOf ws) → grade < shapeOf ws .g
+    → soundBlock (shapeOf ws) (blockPart (shapeOf ws) grade ws) ≡ true → Whole (shapeOf ws) (blockPart (shapeOf ws) grade ws)
+whole-block ws grade head size inside sound = record {
+  proper = record { limits = soundHead-limits ws head; last = refl };
+  size = length-blockPart (shapeOf ws) grade inside ws size;
+  sound = sound;
+}

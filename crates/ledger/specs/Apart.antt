@@ -1,21 +1,22 @@
--- Grades do not touch (SPECIFICATION 10): a delivery changes no word outside its grade's block and no answer to a question of another grade,
--- on words of any content. Rests on the codec's laws and on soundness being kept.
-use mathlib.Core.Bool.{Bool, true, false, cond, not}
+-- Grades do not touch (SPECIFICATION 10): a delivery changes no word outside its grade's block and no answer to a question or a delivery of
+-- another grade, on words of any content. Rests on the codec's laws and on soundness being kept.
+use mathlib.Core.Bool.{Bool, true, false, cond}
 use mathlib.Core.Path.{_≡_, refl, sym, ap, ap₂, _∙_}
 use mathlib.Core.Logic.{_⊎_, inl, ⊎-elim, _≢_}
-use mathlib.Core.List.{List, [], _∷_, _++_}
-use Prim.Native.Nat.{ℕ, _+_, _^_, _≤_, _<_}
+use mathlib.Core.List.{List, [], _∷_}
+use Prim.Native.Nat.{ℕ, _+_, _≤_, _<_}
 use native.Mathlib.Omega.{arith}
-use lib.Dec.{ltb, eqb}
+use lib.Dec.{eqb}
 use lib.ListN.{length, getD}
 use Rattle.shape.specs.declared.Shape.{Shape}
-use Rattle.shape.specs.Limits.{Reply, accepted, refused}
+use Rattle.shape.specs.Limits.{Reply, accepted, inserted, refused}
 use Rattle.shape.specs.Layout.{headLen, bookWords, blockWords, blockStart}
+use Rattle.model.specs.declared.Call.{Call}
 use Rattle.model.specs.declared.Call.the-variants.{Delivery, Query}
-use Rattle.model.specs.Block.{Block, windowSum, deliver}
+use Rattle.model.specs.Block.{Block, interval, halfOf, windowSum, deliver, deliverSplits}
 use Rattle.model.specs.Words.{shapeOf, clockOf, blockPart, decodeBlock, encodeBlock, withBlock}
 use Rattle.model.specs.Sound.{soundHead, soundBlock}
-use Rattle.model.specs.Calls.{View, blockAt, firstOf, opened, refusals, bookView, outcomeOf, accept, perform, delivered}
+use Rattle.model.specs.Calls.{View, blockAt, firstOf, refusals, bookView, Outcome, outcomeOf, settle, accept, perform, delivered}
 use Rattle.laws.specs.Cond.{eq-or-ne}
 use Rattle.laws.specs.Proper.{Proper}
 use Rattle.laws.specs.BlockWords.{soundBlock-decode}
@@ -23,26 +24,50 @@ use Rattle.laws.specs.BlockSound.{deliver-both, both-size}
 use Rattle.laws.specs.BookWords.{soundHead-limits, head-before, length-withBlock, blockPart-withBlock-other, getD-withBlock-below, getD-withBlock-above}
 use Rattle.laws.specs.Refusals.{AcceptedDelivery, accepted-delivery, settle-accepted, settle-refused}
 
--- ---- what the reply to a question depends on
+-- ---- what the reply to a call of one grade depends on: the length, the head and the words of the grade's block
 
-abbrev queryReply : ℕ → Bool → Shape → ℕ → Bool → Block → ℕ → ℕ → Reply
-queryReply lent headSound s clock blockSound b grade window =
-    let v : View = record { lent = lent; headSound = headSound; shape = s; clock = clock; blockSound = λ _. blockSound; total = λ _ _. 0 } in
-    let number = firstOf (opened v ++ (not (ltb grade (s .g)), 3) ∷ (ltb (2 ^ s .k) window, 5) ∷ (not blockSound, 11) ∷ []) in
-    cond (eqb number 0) (accepted (windowSum s clock window b ∷ [])) (refused number)
+-- what such a call is judged by
+abbrev viewOf : ℕ → Bool → Shape → ℕ → List ℕ → View
+viewOf lent headSound s clock block = record {
+  lent = lent;
+  headSound = headSound;
+  shape = s;
+  clock = clock;
+  blockSound = λ _. soundBlock s block;
+  total = λ _ stamp. halfOf (interval s stamp) (decodeBlock s block) .total;
+}
 
-query-reply : (ws : List ℕ) (grade window : ℕ)
-    → perform ws (Query grade window) .reply
-    ≡ queryReply (length ws) (soundHead ws) (shapeOf ws) (clockOf ws) (soundBlock (shapeOf ws) (blockPart (shapeOf ws) grade ws)) (blockAt ws grade) grade window
-unfolding perform refusals bookView
-query-reply ws grade window = go (eqb (firstOf (refusals (bookView ws) (Query grade window))) 0)
+abbrev judged : View → Call → Reply → Reply
+judged v call done = let number = firstOf (refusals v call) in cond (eqb number 0) done (refused number)
+
+-- a call of this grade, and what it replies where it is accepted
+record OfGrade (grade : ℕ) (call : Call) : Type 0 where
+  pub done : Shape → ℕ → Block → Reply
+  pub told : (ws : List ℕ) → let s = shapeOf ws in
+      perform ws call .reply ≡ judged (viewOf (length ws) (soundHead ws) s (clockOf ws) (blockPart s grade ws)) call (done s (clockOf ws) (blockAt ws grade))
+
+settled : {A : Type 0} (rs : List (Bool × ℕ)) (before : A) (done : Outcome A) → settle rs before done .reply ≡ cond (eqb (firstOf rs) 0) (done .reply) (refused (firstOf rs))
+settled rs before done = go (eqb (firstOf rs) 0)
   where
-    go : (t : Bool) → cond t (accept ws (Query grade window)) (outcomeOf (refused (firstOf (refusals (bookView ws) (Query grade window)))) ws) .reply
-        ≡ cond t (accept ws (Query grade window) .reply) (refused (firstOf (refusals (bookView ws) (Query grade window))))
+    go : (t : Bool) → cond t done (outcomeOf (refused (firstOf rs)) before) .reply ≡ cond t (done .reply) (refused (firstOf rs))
     go true = refl
     go false = refl
 
--- words that agree in length, in the head and in the grade's block give the same replies to its questions
+question : (grade window : ℕ) → OfGrade grade (Query grade window)
+unfolding perform refusals bookView
+question grade window = record {
+  done = λ s clock b. accepted (windowSum s clock window b ∷ []);
+  told = λ ws. settled (refusals (bookView ws) (Query grade window)) ws (accept ws (Query grade window));
+}
+
+delivery : (grade stamp volume : ℕ) → OfGrade grade (Delivery grade stamp volume)
+unfolding perform refusals bookView
+delivery grade stamp volume = record {
+  done = λ s clock b. inserted (deliverSplits s stamp volume b);
+  told = λ ws. settled (refusals (bookView ws) (Delivery grade stamp volume)) ws (accept ws (Delivery grade stamp volume));
+}
+
+-- words that agree in length, in the head and in the grade's block give the same replies to its calls
 module _ (ws vs : List ℕ) (lengths : length vs ≡ length ws) (heads : (i : ℕ) → i < headLen → getD vs i 0 ≡ getD ws i 0) where
   shape-same : shapeOf vs ≡ shapeOf ws
   shape-same = rw (heads 0 (omega arith), heads 1 (omega arith), heads 2 (omega arith), heads 3 (omega arith))
@@ -60,14 +85,11 @@ module _ (ws vs : List ℕ) (lengths : length vs ≡ length ws) (heads : (i : �
     heads 7 (omega arith),
   )
 
-  reply-same : (grade window : ℕ) → blockPart (shapeOf ws) grade vs ≡ blockPart (shapeOf ws) grade ws
-      → perform vs (Query grade window) .reply ≡ perform ws (Query grade window) .reply
-  reply-same grade window parts =
-      let reply : Shape → List ℕ → Reply = λ s b. queryReply (length ws) (soundHead ws) s (clockOf ws) (soundBlock s b) (decodeBlock s b) grade window in
+  reply-same : (grade : ℕ) (call : Call) → OfGrade grade call → blockPart (shapeOf ws) grade vs ≡ blockPart (shapeOf ws) grade ws → perform vs call .reply ≡ perform ws call .reply
+  reply-same grade call of parts =
+      let reply : Shape → List ℕ → Reply = λ s block. judged (viewOf (length ws) (soundHead ws) s (clockOf ws) block) call (of .done s (clockOf ws) (decodeBlock s block)) in
       let part : blockPart (shapeOf vs) grade vs ≡ blockPart (shapeOf ws) grade ws = ap (λ (s : Shape). blockPart s grade vs) shape-same ∙ parts in
-      query-reply vs grade window
-      ∙ rw (lengths, head-same, heads 4 (omega arith)) (ap₂ reply shape-same part)
-      ∙ sym (query-reply ws grade window)
+      of .told vs ∙ rw (lengths, head-same, heads 4 (omega arith)) (ap₂ reply shape-same part) ∙ sym (of .told ws)
 
 -- ---- a delivery, on any words
 
@@ -134,7 +156,14 @@ module _ (ws : List ℕ) (grade stamp volume : ℕ) where
       (λ (h : number ≡ 0 → ⊥). rw (after-refused h))
       (eq-or-ne number 0)
 
+  apart-replies : (other : ℕ) (call : Call) → other ≢ grade → OfGrade other call → perform after call .reply ≡ perform ws call .reply
+  apart-replies other call apart of =
+      reply-same ws after (apart-words .0) (λ i low. apart-words .1 i (inl (omega (arith, head-before s grade)))) other call of (apart-block other apart)
+
   -- no reply to a question of another grade changes, whatever the words and the window are
   pub apart-answers : (other window : ℕ) → other ≢ grade → perform after (Query other window) .reply ≡ perform ws (Query other window) .reply
-  apart-answers other window apart =
-      reply-same ws after (apart-words .0) (λ i low. apart-words .1 i (inl (omega (arith, head-before s grade)))) other window (apart-block other apart)
+  apart-answers other window apart = apart-replies other (Query other window) apart (question other window)
+
+  -- nor does the reply to a delivery of another grade: neither its number nor its splits
+  pub apart-splits : (other at v : ℕ) → other ≢ grade → perform after (Delivery other at v) .reply ≡ perform ws (Delivery other at v) .reply
+  apart-splits other at v apart = apart-replies other (Delivery other at v) apart (delivery other at v)

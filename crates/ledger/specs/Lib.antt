@@ -10,3 +10,4 @@ pub mod Steps
 pub mod Demand
 pub mod Excluded
 pub mod Apart
+pub mod SplitsBound

@@ -1,5 +1,5 @@
 -- The sum of an answered question fits a word, on words of any content. Rests on what the check of a block gives.
-use mathlib.Core.Path.{_≡_, refl}
+use mathlib.Core.Path.{_≡_}
 use mathlib.Core.List.{List}
 use Prim.Native.Nat.{ℕ, _%_, _^_, _≤_, _<_}
 use native.Mathlib.Omega.{arith}
@@ -12,7 +12,7 @@ use Rattle.model.specs.Words.{shapeOf, clockOf, blockPart, decodeHalf, decodeBl
 use Rattle.model.specs.Calls.{Outcome, firstOf, refusals, bookView, accept, perform}
 use Rattle.laws.specs.Cond.{by-eq}
 use Rattle.laws.specs.Proper.{Whole}
-use Rattle.laws.specs.BookWords.{soundHead-limits, length-blockPart}
+use Rattle.laws.specs.BookWords.{whole-block}
 use Rattle.laws.specs.Refusals.{accepted-query}
 use Rattle.block.specs.Steps.{index-serves, total-small, sum-small, answer-decode}
 
@@ -41,13 +41,8 @@ module _ (ws : List ℕ) where
   accept-fits (Delivery grade stamp volume) h = omega arith
   accept-fits (Query grade window) h =
       let facts = accepted-query (bookView ws) grade window h in
-      let s : Shape = shapeOf ws in
-      let whole : Whole s (blockPart s grade ws) = record {
-        proper = record { limits = soundHead-limits ws (facts .head); last = refl };
-        size = length-blockPart s grade (facts .inside) ws (facts .size);
-        sound = facts .sound;
-      } in
-      omega (arith, window-small s (blockPart s grade ws) whole (clockOf ws) window)
+      let whole = whole-block ws grade (facts .head) (facts .size) (facts .inside) (facts .sound) in
+      omega (arith, window-small (shapeOf ws) (blockPart (shapeOf ws) grade ws) whole (clockOf ws) window)
 
   pub perform-fits : (call : Call) → getD (perform ws call .reply .values) 0 0 < 2 ^ 32
   unfolding perform

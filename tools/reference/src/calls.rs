@@ -52,6 +52,8 @@ pub enum Call {
 pub enum Answer {
     /// Accepted; there is no number to give.
     Done,
+    /// How many buckets a delivery split on all levels (document 02's halvings, request Four).
+    Splits(u32),
     /// The sum of a query.
     Sum(u64),
 }
@@ -68,7 +70,7 @@ pub fn perform(words: &mut [u32], call: Call) -> Reply {
             grade,
             stamp,
             volume,
-        } => deliver(words, grade, stamp, volume).map(|()| Answer::Done),
+        } => deliver(words, grade, stamp, volume).map(Answer::Splits),
         Call::Query { grade, window } => query(words, grade, window).map(Answer::Sum),
     }
 }
@@ -107,8 +109,8 @@ pub fn clock(words: &mut [u32], new: u32) -> Result<(), u32> {
     Ok(())
 }
 
-/// Records a delivery in the histogram of its stamp's interval.
-pub fn deliver(words: &mut [u32], grade: u32, stamp: u32, volume: u32) -> Result<(), u32> {
+/// Records a delivery in the histogram of its stamp's interval; how many buckets it split.
+pub fn deliver(words: &mut [u32], grade: u32, stamp: u32, volume: u32) -> Result<u32, u32> {
     let (shape, clock) = open(words)?;
     let tick = u64::from(stamp);
     when(grade >= shape.g(), refusal::GRADE)?;
@@ -119,9 +121,9 @@ pub fn deliver(words: &mut [u32], grade: u32, stamp: u32, volume: u32) -> Result
     let histogram = &mut block[shape.parity(tick)];
     let full = histogram.total + u64::from(volume) > shape.capacity();
     when(full, refusal::FULL)?;
-    histogram.insert(shape, shape.offset(tick), volume.into());
+    let splits = histogram.insert(shape, shape.offset(tick), volume.into());
     encode_block(shape, &block, &mut words[shape.block(grade)]);
-    Ok(())
+    Ok(splits)
 }
 
 /// The sum of a window that ends at the clock; 0 for window 0, once nothing refuses it.

@@ -61,16 +61,26 @@ impl Level {
         }
     }
 
-    /// One decilitre into the level of this index.
-    pub fn insert_unit(&mut self, shape: Shape, index: usize, offset: u64) {
+    /// So many decilitres into the level of this index, one after another; how many of them split a
+    /// bucket.
+    pub fn insert(&mut self, shape: Shape, index: usize, offset: u64, volume: u64) -> u32 {
+        let mut splits = 0;
+        for _ in 0..volume {
+            splits += u32::from(self.insert_unit(shape, index, offset));
+        }
+        splits
+    }
+
+    /// One decilitre into the level of this index; whether it split a bucket.
+    pub fn insert_unit(&mut self, shape: Shape, index: usize, offset: u64) -> bool {
         if offset < self.first {
-            return;
+            return false;
         }
         if index == 0 {
             self.insert_unit_at_tick(shape, offset);
-        } else {
-            self.insert_unit_in_span(shape, index, offset);
+            return false;
         }
+        self.insert_unit_in_span(shape, index, offset)
     }
 
     /// Level 0: a bucket for every tick.
@@ -93,14 +103,15 @@ impl Level {
         }
     }
 
-    /// Level i from 1 on: a bucket splits on reaching the weight 2^(i+1).
-    fn insert_unit_in_span(&mut self, shape: Shape, index: usize, offset: u64) {
+    /// Level i from 1 on: a bucket splits on reaching the weight 2^(i+1). Whether it did.
+    fn insert_unit_in_span(&mut self, shape: Shape, index: usize, offset: u64) -> bool {
         // The buckets of a sound level span every offset from `first` on.
         let covering = self.buckets.iter().position(|b| b.covers(offset));
         let slot = covering.expect("a sound level covers each offset that it keeps");
         let bucket = &mut self.buckets[slot];
         bucket.weight += 1;
-        if bucket.weight == 2 << index && bucket.length > 1 {
+        let splits = bucket.weight == 2 << index && bucket.length > 1;
+        if splits {
             let parts = bucket.split();
             self.buckets.splice(slot..=slot, parts);
         }
@@ -108,6 +119,7 @@ impl Level {
             self.buckets.remove(0);
             self.first = self.buckets[0].offset;
         }
+        splits
     }
 
     /// The weight of all buckets that start at the opening or after it. A bucket that the opening
@@ -137,14 +149,13 @@ impl Histogram {
         }
     }
 
-    /// A whole volume, one decilitre after another.
-    pub fn insert(&mut self, shape: Shape, offset: u64, volume: u64) {
-        for _ in 0..volume {
-            self.total += 1;
-            for (index, level) in self.levels.iter_mut().enumerate() {
-                level.insert_unit(shape, index, offset);
-            }
-        }
+    /// A whole volume into every level; how many buckets were split on all of them.
+    pub fn insert(&mut self, shape: Shape, offset: u64, volume: u64) -> u32 {
+        self.total += volume;
+        let levels = self.levels.iter_mut().enumerate();
+        levels
+            .map(|(index, level)| level.insert(shape, index, offset, volume))
+            .sum()
     }
 
     /// The finest level that still keeps every offset from the opening on. Coarser levels can have

@@ -1,5 +1,6 @@
 //! The exact ledger (document 01, "The ledger"). It is fed the calls and the number of words that
-//! each one borrows, never a word of a book, so that refusals 7 and 11 are unknown to it.
+//! each one borrows, never a word of a book, so that refusals 7 and 11 are unknown to it. It has no
+//! buckets, so it answers a delivery without a count of splits.
 
 use crate::calls::{Answer, Call, Reply};
 use crate::refusal::{self, when};

@@ -1,5 +1,6 @@
 //! A second implementation of document 01, as plain as it can be. Windows and lateness are those of
-//! document 02, request One; request Two adds traces and their replay.
+//! document 02, request One; request Two adds traces and their replay, request Four the count of a
+//! delivery's splits.
 //!
 //! It shares nothing with the proved code but the documents. A call decodes the words into vectors
 //! of buckets, inserts decilitre by decilitre, and encodes the vectors again; clarity comes before

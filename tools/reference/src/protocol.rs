@@ -68,10 +68,10 @@ pub fn run(mut input: impl BufRead, mut output: impl Write) -> io::Result<()> {
     Ok(())
 }
 
-/// The output line for the answer of a call.
+/// The output line for the answer of a call. It does not tell the splits of a delivery.
 pub fn answer(reply: Reply) -> String {
     match reply {
-        Ok(Answer::Done) => "ok".to_string(),
+        Ok(Answer::Done | Answer::Splits(_)) => "ok".to_string(),
         Ok(Answer::Sum(sum)) => format!("= {sum}"),
         Err(number) => format!("refused {number}"),
     }

@@ -15,13 +15,20 @@ pub fn find_day(trace: &[u32], day: u32) -> Result<&[u32], u32> {
 }
 
 /// Performs every record of a day on a book, each as a call of its own, and writes the answers. A
-/// refused record does not stop the ones after it. Refused as a whole, it writes nothing.
-pub fn replay(book: &mut [u32], trace: &[u32], day: u32, answers: &mut [u32]) -> Result<(), u32> {
+/// refused record does not stop the ones after it. Refused as a whole, it writes nothing. It gives the
+/// replies themselves too, because the words leave out the splits of a delivery.
+pub fn replay(
+    book: &mut [u32],
+    trace: &[u32],
+    day: u32,
+    answers: &mut [u32],
+) -> Result<Vec<Reply>, u32> {
     let calls = calls(trace, day, answers.len())?;
-    for (call, answer) in calls.into_iter().zip(answers.chunks_mut(ANSWER_WORDS)) {
-        answer.copy_from_slice(&answer_words(perform(book, call)));
+    let replies: Vec<Reply> = calls.into_iter().map(|call| perform(book, call)).collect();
+    for (reply, answer) in replies.iter().zip(answers.chunks_mut(ANSWER_WORDS)) {
+        answer.copy_from_slice(&answer_words(*reply));
     }
-    Ok(())
+    Ok(replies)
 }
 
 /// The calls that a replay with so many answer words consists of; they are also what a ledger is fed.
@@ -36,7 +43,7 @@ pub fn calls(trace: &[u32], day: u32, room: usize) -> Result<Vec<Call>, u32> {
 /// What is written for a record that was answered so.
 pub fn answer_words(reply: Reply) -> [u32; ANSWER_WORDS] {
     match reply {
-        Ok(Answer::Done) => [0, 0],
+        Ok(Answer::Done | Answer::Splits(_)) => [0, 0],
         Ok(Answer::Sum(sum)) => [
             0,
             u32::try_from(sum).expect("two halves hold less than 2^32"),

@@ -1,5 +1,6 @@
 //! The examples of document 01: P1 to P10, the two book lengths, the windows and the bench text. What
-//! windows answer and which stamps are late is document 02's, request One.
+//! windows answer and which stamps are late is document 02's, request One, and how many buckets a
+//! delivery splits request Four.
 
 use reference::calls::{clock, deliver, make, query};
 use reference::histogram::{Histogram, Level};
@@ -8,8 +9,9 @@ use reference::protocol::run;
 use reference::shape::Shape;
 use reference::words::decode_block;
 
-/// Stamp and volume of the deliveries from P1 to P7.
+/// Stamp and volume of the deliveries from P1 to P7, and how many buckets each splits.
 const DELIVERIES: [(u32, u32); 5] = [(0, 3), (3, 1), (1, 1), (1, 1), (2, 2)];
+const SPLITS: [u32; 5] = [0, 1, 0, 1, 2];
 
 fn shape() -> Shape {
     Shape::new(2, 2, 4, 1).unwrap()
@@ -20,8 +22,8 @@ fn after(deliveries: &[(u32, u32)]) -> Vec<u32> {
     let mut words = vec![0; 90];
     make(&mut words, 2, 2, 4, 1).unwrap();
     clock(&mut words, 3).unwrap();
-    for &(stamp, volume) in deliveries {
-        deliver(&mut words, 0, stamp, volume).unwrap();
+    for (&(stamp, volume), splits) in deliveries.iter().zip(SPLITS) {
+        assert_eq!(deliver(&mut words, 0, stamp, volume), Ok(splits));
     }
     words
 }
@@ -117,12 +119,13 @@ fn p7_leaves_out_the_bucket_that_the_opening_cuts() {
 #[test]
 fn p8_ignores_the_rest_after_its_bucket_was_evicted() {
     let mut words = example(2);
-    deliver(&mut words, 0, 0, 5).unwrap();
+    // One split on level 1, since the evicted half is not split again, and one on level 2.
+    assert_eq!(deliver(&mut words, 0, 0, 5), Ok(2));
     assert_level(&words, 1, 1, &[(1, 1, 2), (2, 2, 2)]);
     // Nine decilitres came in all; level 1 counts four, has evicted two and ignored three.
     assert_eq!(even(&words).total, 9);
     let mut shorter = example(2);
-    deliver(&mut shorter, 0, 0, 2).unwrap();
+    assert_eq!(deliver(&mut shorter, 0, 0, 2), Ok(1));
     assert_eq!(even(&shorter).levels[1], even(&words).levels[1]);
 }
 
@@ -133,7 +136,7 @@ fn p9_fills_the_interval_exactly() {
         let before = words.clone();
         assert_eq!(deliver(&mut words, 0, stamp, 9), Err(12));
         assert_eq!(words, before);
-        assert_eq!(deliver(&mut words, 0, stamp, 8), Ok(()));
+        assert_eq!(deliver(&mut words, 0, stamp, 8), Ok(2));
         assert_eq!(even(&words).total, 16);
         assert_eq!(deliver(&mut words, 0, stamp, 1), Err(12));
     }
@@ -143,7 +146,7 @@ fn p9_fills_the_interval_exactly() {
 fn p10_meets_both_ends_of_the_allowed_stamps() {
     let mut start = example(7);
     clock(&mut start, 8).unwrap();
-    for (stamp, answer) in [(5, Ok(())), (4, Err(9)), (3, Err(9)), (9, Err(8))] {
+    for (stamp, answer) in [(5, Ok(0)), (4, Err(9)), (3, Err(9)), (9, Err(8))] {
         let mut words = start.clone();
         assert_eq!(deliver(&mut words, 0, stamp, 1), answer, "stamp {stamp}");
         assert_eq!(words == start, answer.is_err());
@@ -207,6 +210,7 @@ fn bench_text() {
     let input = "m 2 2 4 1;c 3;d 0 0 3;d 0 3 1;d 0 1 1;q 0 2;d 0 4 1;q 0 4;q 0 5";
     let expected = "ok;ok;ok;ok;ok;= 1;refused 8;= 5;refused 5;";
     let mut output = Vec::new();
+    // The second delivery splits a bucket, of which its line says nothing.
     run(input.replace(';', "\n").as_bytes(), &mut output).unwrap();
     assert_eq!(
         String::from_utf8(output).unwrap(),

@@ -18,9 +18,7 @@ fn level(first: u64, buckets: &[(u64, u64, u64)]) -> Level {
 /// Inserts into one level of shape k = 3, n = 3.
 fn insert(mut start: Level, index: usize, offset: u64, volume: u64) -> Level {
     let shape = Shape::new(3, 3, 8, 1).unwrap();
-    for _ in 0..volume {
-        start.insert_unit(shape, index, offset);
-    }
+    start.insert(shape, index, offset, volume);
     start
 }
 

@@ -1,7 +1,7 @@
 //! Finding a day and replaying it: the example, the refusals and their order, and what is written.
 
 use draw::trace::EXAMPLE;
-use reference::calls::{clock, deliver, make, perform, query};
+use reference::calls::{clock, deliver, make, perform, query, Answer, Reply};
 use reference::replay::{answer_words, calls, find_day, replay, ANSWER_WORDS};
 use reference::trace::{lay_out, Record};
 
@@ -15,7 +15,7 @@ fn made() -> Vec<u32> {
 fn the_example() {
     let mut book = made();
     let mut answers = [7; 11];
-    assert_eq!(replay(&mut book, &EXAMPLE, 1, &mut answers), Ok(()));
+    replay(&mut book, &EXAMPLE, 1, &mut answers).unwrap();
     assert_eq!(answers, [0, 0, 0, 0, 0, 0, 0, 0, 0, 1, 7]);
     let mut expected = made();
     clock(&mut expected, 3).unwrap();
@@ -80,7 +80,7 @@ fn refused_in_order_and_nothing_written() {
 fn an_empty_day_needs_no_room() {
     for room in [0, 1, 2] {
         let (mut book, mut answers) = (made(), vec![7; room]);
-        assert_eq!(replay(&mut book, &EXAMPLE, 0, &mut answers), Ok(()));
+        assert_eq!(replay(&mut book, &EXAMPLE, 0, &mut answers), Ok(vec![]));
         assert_eq!((book, answers), (made(), vec![7; room]));
     }
 }
@@ -125,7 +125,7 @@ fn a_short_or_damaged_book_refuses_each_record() {
     ];
     for (book, numbers) in books {
         let (mut words, mut answers) = (book.clone(), [7; 10]);
-        assert_eq!(replay(&mut words, &EXAMPLE, 1, &mut answers), Ok(()));
+        replay(&mut words, &EXAMPLE, 1, &mut answers).unwrap();
         assert_eq!(answers, numbers.map(|number| [number, 0]).concat()[..]);
         assert_eq!(words, book);
     }
@@ -134,10 +134,14 @@ fn a_short_or_damaged_book_refuses_each_record() {
 #[test]
 fn as_separate_calls() {
     let (mut book, mut answers) = (made(), [7; 10]);
-    replay(&mut book, &EXAMPLE, 1, &mut answers).unwrap();
-    let (mut apart, mut words) = (made(), Vec::new());
-    for call in calls(&EXAMPLE, 1, 10).unwrap() {
-        words.extend(answer_words(perform(&mut apart, call)));
-    }
+    let replies = replay(&mut book, &EXAMPLE, 1, &mut answers).unwrap();
+    let mut apart = made();
+    let calls = calls(&EXAMPLE, 1, 10).unwrap().into_iter();
+    let expected: Vec<Reply> = calls.map(|call| perform(&mut apart, call)).collect();
+    let words: Vec<u32> = expected.iter().copied().flat_map(answer_words).collect();
     assert_eq!((book, &answers[..]), (apart, &words[..]));
+    assert_eq!(replies, expected);
+    // The second delivery splits a bucket, of which its words say nothing.
+    assert_eq!(replies[2], Ok(Answer::Splits(1)));
+    assert_eq!(answer_words(replies[2]), [0, 0]);
 }

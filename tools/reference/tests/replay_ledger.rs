@@ -68,7 +68,7 @@ impl List {
         let mut answers = vec![7; room];
         let reply = replay(&mut self.words, trace, day, &mut answers);
         let calls = calls(trace, day, room);
-        assert_eq!(calls.as_ref().err().copied(), reply.err());
+        assert_eq!(calls.as_ref().err(), reply.as_ref().err());
         let Ok(calls) = calls else {
             assert_eq!((&self.words, answers), (&before, vec![7; room]));
             self.seen.refused_replays += 1;

@@ -142,7 +142,7 @@ fn undamaged_book_is_accepted() {
     }
     assert_eq!(deliver(&mut words, 0, 5, 1), Err(12));
     assert_eq!(clock(&mut words, 8), Ok(()));
-    assert_eq!(deliver(&mut words, 0, 8, 4), Ok(()));
+    assert_eq!(deliver(&mut words, 0, 8, 4), Ok(1));
 }
 
 #[test]

@@ -24,7 +24,7 @@ pub trait Calls {
                 grade,
                 stamp,
                 volume,
-            } => Self::delivery(book, grade, stamp, volume).map(done),
+            } => Self::delivery(book, grade, stamp, volume).map(Answer::Splits),
             Call::Query { grade, window } => Self::query(book, grade, window).map(Answer::Sum),
         }
     }
@@ -66,8 +66,8 @@ pub trait Calls {
         Ok(())
     }
 
-    /// Records a delivery in the half of its stamp's interval.
-    fn delivery(book: &mut [u32], grade: u32, stamp: u32, volume: u32) -> Result<(), u32> {
+    /// Records a delivery in the half of its stamp's interval; how many buckets it splits.
+    fn delivery(book: &mut [u32], grade: u32, stamp: u32, volume: u32) -> Result<u32, u32> {
         let (shape, clock) = open(book)?;
         when(grade >= shape.g(), refusal::GRADE)?;
         when(volume == 0 || volume > Shape::VOLUME_MAX, refusal::VOLUME)?;
@@ -82,10 +82,10 @@ pub trait Calls {
         block[parity] += volume;
         let offset = shape.offset(tick) as u32;
         let levels = block[half(shape, parity)].chunks_exact_mut(shape.level_length());
-        for (index, level) in (0..).zip(levels) {
-            insertion::insert(level, index, offset, volume);
-        }
-        Ok(())
+        let splits = (0..)
+            .zip(levels)
+            .map(|(index, level)| insertion::insert(level, index, offset, volume));
+        Ok(splits.sum())
     }
 
     /// The sum of a window that ends at the clock; 0 for window 0, once nothing refuses it.

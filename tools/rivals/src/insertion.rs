@@ -8,21 +8,44 @@ use reference::shape::Shape;
 /// A bucket is split at most so often by one volume: its length is at most 2^20.
 const SPLITS_MAX: usize = Shape::K_MAX as usize;
 
-/// Inserts a volume into exactly the words of the level of this index (document 01's 'pour').
-pub fn insert(level: &mut [u32], index: u32, offset: u32, volume: u32) {
+/// What an insertion makes of a level, but for its slots.
+struct Inserted {
+    /// The bucket count.
+    count: usize,
+    /// The first kept offset.
+    first: u32,
+    /// How many buckets were split.
+    splits: u32,
+}
+
+impl Inserted {
+    /// Without a split.
+    fn unsplit(count: usize, first: u32) -> Inserted {
+        Inserted {
+            count,
+            first,
+            splits: 0,
+        }
+    }
+}
+
+/// Inserts a volume into exactly the words of the level of this index (document 01's 'pour'); how many
+/// buckets it splits.
+pub fn insert(level: &mut [u32], index: u32, offset: u32, volume: u32) -> u32 {
     let (head, slots) = level.split_at_mut(layout::LEVEL_HEAD_WORDS);
     let (count, first) = (head[0] as usize, head[1]);
     let slots = slots.as_chunks_mut().0;
     if offset < first {
-        return;
+        return 0;
     }
-    let (count, first) = if index == 0 {
+    let inserted = if index == 0 {
         at_tick(slots, count, first, offset, volume)
     } else {
         in_span(slots, count, first, index, offset, volume)
     };
-    head[0] = count as u32;
-    head[1] = first;
+    head[0] = inserted.count as u32;
+    head[1] = inserted.first;
+    inserted.splits
 }
 
 /// How many slots have an offset below the bound. Most stamps are recent, so it is looked for from
@@ -38,25 +61,25 @@ fn below(slots: &[Slot], bound: u32) -> usize {
 }
 
 /// Level 0: a bucket for every tick.
-fn at_tick(slots: &mut [Slot], count: usize, first: u32, offset: u32, volume: u32) -> (usize, u32) {
+fn at_tick(slots: &mut [Slot], count: usize, first: u32, offset: u32, volume: u32) -> Inserted {
     let at = below(&slots[..count], offset);
     if at < count && slots[at][0] == offset {
         slots[at][2] += volume;
-        return (count, first);
+        return Inserted::unsplit(count, first);
     }
     let made = [offset, 1, volume];
     if count < slots.len() {
         slots.copy_within(at..count, at + 1);
         slots[at] = made;
-        (count + 1, first)
+        Inserted::unsplit(count + 1, first)
     } else if at == 0 {
         // The bucket that the first decilitre makes is evicted; the rest is below the first offset.
-        (count, offset + 1)
+        Inserted::unsplit(count, offset + 1)
     } else {
         let first = slots[0][0] + 1;
         slots.copy_within(1..at, 0);
         slots[at - 1] = made;
-        (count, first)
+        Inserted::unsplit(count, first)
     }
 }
 
@@ -68,14 +91,14 @@ fn in_span(
     index: u32,
     offset: u32,
     volume: u32,
-) -> (usize, u32) {
+) -> Inserted {
     let at = below(&slots[..count], offset + 1) - 1;
     let [_, length, weight] = slots[at];
     if length > 1 && volume >= (2 << index) - weight {
         return split(slots, count, first, index, offset, volume, at);
     }
     slots[at][2] += volume;
-    (count, first)
+    Inserted::unsplit(count, first)
 }
 
 /// Fills the bucket of this slot, splits it, and goes on in the half that spans the offset.
@@ -88,7 +111,7 @@ fn split(
     offset: u32,
     volume: u32,
     at: usize,
-) -> (usize, u32) {
+) -> Inserted {
     let (full, part) = (2 << index, 1 << index);
     let [mut start, mut length, mut weight] = slots[at];
     let mut rest = volume;
@@ -137,5 +160,10 @@ fn split(
     } else {
         first
     };
-    (count_after, first)
+    Inserted {
+        count: count_after,
+        first,
+        // Each split left one half before the bucket or after it.
+        splits: (befores + afters) as u32,
+    }
 }

@@ -10,7 +10,7 @@ use draw::pace::Pace;
 use draw::random::Random;
 use draw::shapes::Makes;
 use draw::view::Words;
-use reference::calls::Call;
+use reference::calls::{Answer, Call};
 use reference::layout::{FIRST, HEAD_WORDS, LENGTH, LEVEL_HEAD_WORDS, SLOT_WORDS, WEIGHT};
 use reference::refusal;
 use reference::shape::Shape;
@@ -48,16 +48,22 @@ fn shapes() -> Vec<Shape> {
 
 #[test]
 fn random_calls() {
+    let (mut once, mut often) = (0, 0);
     for (seed, shape) in (0..).zip(shapes()) {
         for volume in [2, 40, 900] {
             let mut source = source(seed, volume);
             let mut words = made(shape);
             for _ in 0..1500 {
                 let asked = source.call(&Words::new(shape, &words));
-                let _ = agree(&mut words, asked);
+                if let Ok(Answer::Splits(splits)) = agree(&mut words, asked) {
+                    once += u32::from(splits == 1);
+                    often += u32::from(splits > shape.m());
+                }
             }
         }
     }
+    // More splits than levels from 1 on, so one of them made several.
+    assert!(once > 1000 && often > 100, "{once} {often}");
 }
 
 /// Every window and every stamp while the clock goes through the first intervals.

@@ -10,6 +10,9 @@ enum { HOUR = 3600, DAY = 24 * HOUR };
 
 static uint32_t book[WORDS];
 
+/* The display link sends one message for each halving. */
+static uint32_t messages;
+
 struct delivery {
     const char *what;
     uint32_t stamp;
@@ -28,8 +31,10 @@ static void print_refusal(const char *what, uint32_t number)
 
 static int deliver(const struct delivery *d)
 {
-    uint32_t number = litres_delivery(book, WORDS, 0, d->stamp, d->decilitres);
+    uint32_t halvings;
+    uint32_t number = litres_delivery(book, WORDS, 0, d->stamp, d->decilitres, &halvings);
 
+    messages += halvings; /* 0 where the delivery is refused */
     if (number == LITRES_ACCEPTED)
         print_litres(d->what, d->decilitres);
     else
@@ -72,6 +77,7 @@ int main(void)
     }
     for (size_t i = 0; i < sizeof deliveries / sizeof deliveries[0]; i++)
         failed |= deliver(&deliveries[i]);
+    printf("display link: %" PRIu32 " messages\n", messages);
     failed |= ask("last hour", HOUR);
     failed |= ask("last seven days", 7 * DAY);
     return failed;

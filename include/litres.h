@@ -66,9 +66,9 @@
  * stamps in a window, and PATCH with one that leaves what there was, such as a new call.
  */
 #define LITRES_VERSION_MAJOR 0
-#define LITRES_VERSION_MINOR 2
-#define LITRES_VERSION_PATCH 1
-#define LITRES_VERSION "0.2.1"
+#define LITRES_VERSION_MINOR 3
+#define LITRES_VERSION_PATCH 0
+#define LITRES_VERSION "0.3.0"
 
 /* Of traces: most days, words of a record, words of its answer, and the kinds of records. */
 #define LITRES_MAX_DAYS 64
@@ -127,10 +127,13 @@ uint32_t litres_clock(uint32_t *book, size_t len, uint32_t clock);
  * Records `volume` decilitres of a grade at tick `stamp`, which is at most 2^k - 1 ticks behind the
  * clock: an older stamp is late, since no window covers it any more. Deliveries may come in any
  * order. Of the grades' words only this one's are inspected or changed.
+ * Writes to *halvings how many buckets the delivery halved on all levels, at most k * m: as many as
+ * if its decilitres had come one after another. A refused call writes 0. `halvings` must point to a
+ * uint32_t that may be written and that lies outside the book.
  * Refused, in this order: 2 (under 8 words), 7, 2, 3, 4, 8, 9, 11, 12.
  */
 uint32_t litres_delivery(uint32_t *book, size_t len, uint32_t grade, uint32_t stamp,
-                         uint32_t volume);
+                         uint32_t volume, uint32_t *halvings);
 
 /*
  * Writes to *sum the book's sum for a grade, in decilitres, over the last `window` ticks, of which
@@ -156,10 +159,11 @@ uint32_t litres_day(const uint32_t *trace, size_t trace_len, uint32_t day, size_
 /*
  * Runs the records of a day one after another, each exactly as its own call on the book, and writes
  * LITRES_ANSWER_WORDS words for each to `answers`: 0 or the number of its refusal, then the sum of
- * an answered question or 0. A refused record does not stop the ones after it. A book that is
- * damaged or of another length is no reason to refuse the replay: each record is answered as its
- * own call would be, and where that call meets the damage, 2, 7 or 11 stands in its answer. Words of
- * `answers` past those of the last record are left. An empty day needs no answer words.
+ * an answered question or 0. Halvings are not told. A refused record does not stop the ones after
+ * it. A book that is damaged or of another length is no reason to refuse the replay: each record is
+ * answered as its own call would be, and where that call meets the damage, 2, 7 or 11 stands in its
+ * answer. Words of `answers` past those of the last record are left. An empty day needs no answer
+ * words.
  * Refused, in this order: 13 (any record of any day counts), 14, 15. Then no record is run.
  */
 uint32_t litres_replay(uint32_t *book, size_t len, const uint32_t *trace, size_t trace_len,

@@ -16,7 +16,7 @@ pub fn perform(book: &mut [u32], call: Call) -> Reply {
             grade,
             stamp,
             volume,
-        } => litres::delivery(book, grade, stamp, volume).map(done),
+        } => litres::delivery(book, grade, stamp, volume).map(Answer::Splits),
         Call::Query { grade, window } => litres::query(book, grade, window).map(Answer::Sum),
     }
     .map_err(number)

@@ -10,8 +10,8 @@ pub struct Candidate {
     pub make: fn(&mut [u32], [u32; 4]) -> Result<(), u32>,
     /// Document 01's clock.
     pub clock: fn(&mut [u32], u32) -> Result<(), u32>,
-    /// Document 01's delivery.
-    pub delivery: fn(&mut [u32], u32, u32, u32) -> Result<(), u32>,
+    /// Document 01's delivery, with document 02's halvings.
+    pub delivery: fn(&mut [u32], u32, u32, u32) -> Result<u32, u32>,
     /// Document 01's question.
     pub query: fn(&[u32], u32, u32) -> Result<u64, u32>,
 }

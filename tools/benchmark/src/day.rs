@@ -113,7 +113,7 @@ fn separately(library: &Candidate, book: &mut [u32], calls: &[Call], answers: &m
                 grade,
                 stamp,
                 volume,
-            } => (library.delivery)(book, grade, stamp, volume).map(done),
+            } => (library.delivery)(book, grade, stamp, volume).map(Answer::Splits),
             Call::Query { grade, window } => (library.query)(book, grade, window).map(Answer::Sum),
         };
         answer.copy_from_slice(&answer_words(reply));

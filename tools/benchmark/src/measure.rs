@@ -87,13 +87,13 @@ struct Words {
 impl Words {
     /// Each candidate performs the same batch on the same words. They are restored before each batch,
     /// outside the timing, which also leaves them in the caches; all candidates work in the same
-    /// buffer, one after another, and must leave the same words and give the same sums.
+    /// buffer, one after another, and must leave the same words and answer the same numbers.
     fn round(&mut self, row: &Row, load: &mut Load, round: usize) -> [f64; TIMED] {
         let Row { kind, shape, grown } = *row;
         let inspected = Batch::inspected(kind, shape, 0).len();
         let calls = (WORDS_PER_BATCH / inspected).clamp(2, 256) as u32;
         let batch = Batch::new(kind, shape, grown[layout::CLOCK], load, calls);
-        let mut sums = [0; CANDIDATES.len()];
+        let mut answers = [0; CANDIDATES.len()];
         let mut time = [0.0; TIMED];
         self.expected.clear();
         for turn in 0..TIMED {
@@ -103,7 +103,7 @@ impl Words {
             self.book.extend_from_slice(grown);
             let start = Instant::now();
             if let Some(candidate) = CANDIDATES.get(timed) {
-                sums[timed] = batch.perform(candidate, &mut self.book);
+                answers[timed] = batch.perform(candidate, &mut self.book);
             } else {
                 let read = READS[timed - CANDIDATES.len()];
                 for number in 0..batch.len() as u32 {
@@ -121,7 +121,8 @@ impl Words {
                 assert!(equal, "the candidates leave different words");
             }
         }
-        assert!(sums.iter().all(|sum| *sum == sums[0]), "different sums");
+        let equal = answers.iter().all(|answer| *answer == answers[0]);
+        assert!(equal, "the candidates give different answers");
         time
     }
 }

@@ -105,7 +105,7 @@ impl Batch {
         self.calls.len()
     }
 
-    /// Performs the batch; the result is the sum of all answers, and no call may be refused.
+    /// Performs the batch; the result is the sum of all numbers answered, and no call may be refused.
     pub fn perform(&self, candidate: &Candidate, book: &mut [u32]) -> u64 {
         let accepted = "a call that no candidate refuses";
         let mut answers = 0;
@@ -115,7 +115,8 @@ impl Batch {
                 Call::Make(shape) => (candidate.make)(book, shape).expect(accepted),
                 Call::Clock(clock) => (candidate.clock)(book, clock).expect(accepted),
                 Call::Delivery(grade, stamp, volume) => {
-                    (candidate.delivery)(book, grade, stamp, volume).expect(accepted);
+                    let splits = (candidate.delivery)(book, grade, stamp, volume);
+                    answers += u64::from(splits.expect(accepted));
                 }
                 Call::Query(grade, window) => {
                     answers += (candidate.query)(book, grade, window).expect(accepted);

@@ -117,7 +117,7 @@ impl Site {
                     let answers = self.accepted(Call::Query { grade: 0, window })?;
                     let [answer, truth] = answers.map(|answer| match answer {
                         Answer::Sum(sum) => sum,
-                        Answer::Done => 0,
+                        Answer::Done | Answer::Splits(_) => 0,
                     });
                     observed.observations.push(Observation {
                         window,

@@ -2,7 +2,8 @@
 //!
 //! The static library `capi` does all the work; here its C functions get Rust's types. A slice meets
 //! the conditions of `include/litres.h`: its words are there, aligned and used by nobody else. A sum
-//! is returned by value, so it cannot lie within the book. A refusal displays the header's text.
+//! and a count of halvings are returned by value, so they cannot lie within the book. A refusal displays
+//! the header's text.
 //!
 //! ```
 //! let (k, n, m, g) = (2, 2, 4, 1);
@@ -10,7 +11,7 @@
 //! litres::make(&mut book, k, n, m, g)?;
 //! litres::clock(&mut book, 3)?;
 //! litres::delivery(&mut book, 0, 1, 250).unwrap_err(); // 2^4 decilitres at most
-//! litres::delivery(&mut book, 0, 1, 5)?;
+//! assert_eq!(litres::delivery(&mut book, 0, 1, 5)?, 1); // one bucket was halved
 //! assert_eq!(litres::query(&book, 0, 3)?, 5); // stamps 1, 2 and 3
 //! assert_eq!(litres::query(&book, 0, 2)?, 0);
 //! # Ok::<(), litres::Refused>(())
@@ -77,12 +78,15 @@ pub fn clock(book: &mut [u32], clock: u32) -> Result<(), Refused> {
     accepted(unsafe { archive::litres_clock(words, len, clock) })
 }
 
-/// Records a delivery of so many decilitres of a grade at a tick. A tick 2^k or more behind the clock is
-/// late.
-pub fn delivery(book: &mut [u32], grade: u32, stamp: u32, volume: u32) -> Result<(), Refused> {
+/// Records a delivery of so many decilitres of a grade at a tick, and gives the number of its halvings:
+/// how many buckets it halved on all levels, at most k * m. A tick 2^k or more behind the clock is late.
+pub fn delivery(book: &mut [u32], grade: u32, stamp: u32, volume: u32) -> Result<u32, Refused> {
+    let mut halvings = 0;
     let (words, len) = (book.as_mut_ptr(), book.len());
-    // SAFETY: as for `make`.
-    accepted(unsafe { archive::litres_delivery(words, len, grade, stamp, volume) })
+    // SAFETY: as for `make`; `halvings` is a variable of its own, apart from the book.
+    let number =
+        unsafe { archive::litres_delivery(words, len, grade, stamp, volume, &mut halvings) };
+    accepted(number).map(|()| halvings)
 }
 
 /// The book's sum for a grade, in decilitres, over the last `window` ticks, of which the clock's is the
@@ -137,8 +141,12 @@ fn accepted(number: u32) -> Result<(), Refused> {
 mod tests {
     use super::archive;
     use draw::book::Book;
+    use draw::calls::Source;
     use draw::random::Random;
+    use draw::shapes::Makes;
     use draw::trace::{day, Drawn};
+    use draw::view::Words;
+    use reference::calls::{deliver, Call};
 
     /// The safe call cannot see this, a C program can.
     #[test]
@@ -150,6 +158,67 @@ mod tests {
             let number = unsafe { archive::litres_query(book.as_ptr(), len, 0, 0, &mut sum) };
             assert_eq!((number, sum), (if len < 8 { 2 } else { 7 }, 123));
         }
+    }
+
+    /// What C gets for a delivery: number and halvings. The variable holds something else before, so
+    /// that it shows if it is not written.
+    fn delivered(book: &mut [u32], [grade, stamp, volume]: [u32; 3]) -> (u32, u32) {
+        let mut halvings = 123;
+        let (words, len) = (book.as_mut_ptr(), book.len());
+        // SAFETY: the pointer and the length are of one exclusive slice; the variable is apart from it.
+        let number =
+            unsafe { archive::litres_delivery(words, len, grade, stamp, volume, &mut halvings) };
+        (number, halvings)
+    }
+
+    #[test]
+    fn a_delivery_has_its_halvings_and_a_refused_one_none() {
+        let mut book = vec![0; 90];
+        super::make(&mut book, 2, 2, 4, 1).unwrap();
+        super::clock(&mut book, 4).unwrap();
+        assert_eq!(delivered(&mut book, [0, 1, 16]), (0, 5));
+        assert_eq!(delivered(&mut book, [0, 1, 1]), (12, 0));
+        assert_eq!(delivered(&mut book, [0, 0, 1]), (9, 0));
+        assert_eq!(delivered(&mut book, [0, 5, 1]), (8, 0));
+        assert_eq!(delivered(&mut book, [0, 4, 0]), (4, 0));
+        assert_eq!(delivered(&mut book, [1, 4, 1]), (3, 0));
+        for len in [0, 7, 8, 89] {
+            assert_eq!(delivered(&mut book[..len], [0, 4, 1]), (2, 0), "{len}");
+        }
+        book[8] += 1;
+        assert_eq!(delivered(&mut book, [0, 4, 1]), (11, 0));
+        book[7] = 1;
+        assert_eq!(delivered(&mut book, [0, 4, 1]), (7, 0));
+    }
+
+    /// The safe call drops the halvings of a refused delivery, so no comparison through it would see a
+    /// wrong number there.
+    #[test]
+    fn halvings_of_drawn_deliveries() {
+        let random = &mut Random::new(2);
+        let (mut halved, mut refused) = (0, 0);
+        for index in 0..4_000 {
+            let Book { shape, words, .. } = Book::draw(random, index);
+            let mut source = Source::new(random.bits(), Makes::Same);
+            let call = source.caller(&Words::new(shape, &words)).delivery();
+            // Where the interval is full, a clock may be drawn instead.
+            let Call::Delivery {
+                grade,
+                stamp,
+                volume,
+            } = call
+            else {
+                continue;
+            };
+            let found = delivered(&mut words.clone(), [grade, stamp, volume]);
+            let expected = deliver(&mut words.clone(), grade, stamp, volume);
+            let expected = expected.map_or_else(|number| (number, 0), |splits| (0, splits));
+            assert_eq!(found, expected, "{call:?} on {words:?}");
+            halved += usize::from(expected.1 > 0);
+            refused += usize::from(expected.0 > 0);
+        }
+        let met = [halved, refused];
+        assert!(met.iter().all(|count| *count > 300), "{met:?}");
     }
 
     /// What C gets for a day: number, start and length. The variables hold something else before, so

@@ -1,11 +1,13 @@
 //! The examples of document 01 through the archive, with the windows and the lateness of document 02,
-//! request One.
+//! request One, and the halvings of request Four.
 
 use litres::{clock, delivery, make, query, words, Refused};
 
 const SHAPE: [u32; 4] = [2, 2, 4, 1];
 /// Words of a level with two slots.
 const LEVEL: usize = 8;
+/// Stamp and volume of the deliveries from P1 to P7.
+const DELIVERIES: [(u32, u32); 5] = [(0, 3), (3, 1), (1, 1), (1, 1), (2, 2)];
 
 /// The book at clock 3 after deliveries of (stamp, volume).
 fn after(deliveries: &[(u32, u32)]) -> Vec<u32> {
@@ -21,8 +23,7 @@ fn after(deliveries: &[(u32, u32)]) -> Vec<u32> {
 
 /// The state in which P1, P2, P3, P6 or P7 leaves the book.
 fn example(number: usize) -> Vec<u32> {
-    let deliveries = [(0, 3), (3, 1), (1, 1), (1, 1), (2, 2)];
-    after(&deliveries[..[1, 2, 3, 3, 3, 4, 5][number - 1]])
+    after(&DELIVERIES[..[1, 2, 3, 3, 3, 4, 5][number - 1]])
 }
 
 /// The words of a level of the even half.
@@ -132,13 +133,32 @@ fn windows_end_to_end() {
 }
 
 #[test]
+fn p1_to_p8_halvings() {
+    let mut book = after(&[]);
+    let reported = DELIVERIES.map(|(stamp, volume)| delivery(&mut book, 0, stamp, volume));
+    assert_eq!(reported, [0, 1, 0, 1, 2].map(Ok));
+    // On level 1 the second decilitre halves a bucket and evicts the half that it is in, on level 2 the
+    // fourth halves one.
+    assert_eq!(delivery(&mut example(2), 0, 0, 5), Ok(2));
+}
+
+/// Level 1 halves twice, then ignores the rest; level 2 halves once.
+#[test]
+fn halvings_of_a_first_delivery() {
+    let mut book = vec![0; words(3, 2, 6, 1).unwrap()];
+    make(&mut book, 3, 2, 6, 1).unwrap();
+    clock(&mut book, 7).unwrap();
+    assert_eq!(delivery(&mut book, 0, 1, 9), Ok(3));
+}
+
+#[test]
 fn p9_fills_the_interval() {
     for stamp in 0..4 {
         let mut book = example(7);
         let before = book.clone();
         assert_eq!(delivery(&mut book, 0, stamp, 9), Err(Refused(12)));
         assert_eq!(book, before);
-        assert_eq!(delivery(&mut book, 0, stamp, 8), Ok(()));
+        assert_eq!(delivery(&mut book, 0, stamp, 8), Ok(2));
         assert_eq!(book[8], 16);
     }
 }
@@ -148,7 +168,7 @@ fn p10_late_and_ahead() {
     let mut book = example(7);
     clock(&mut book, 8).unwrap();
     let late = Err(Refused(9));
-    for (stamp, answer) in [(5, Ok(())), (4, late), (3, late), (9, Err(Refused(8)))] {
+    for (stamp, answer) in [(5, Ok(0)), (4, late), (3, late), (9, Err(Refused(8)))] {
         assert_eq!(delivery(&mut book.clone(), 0, stamp, 1), answer, "{stamp}");
     }
 }

@@ -2,8 +2,8 @@
 
 use std::fmt::{self, Display, Formatter};
 
-use reference::calls::{self, Call, Reply};
-use reference::protocol::answer;
+use reference::calls::{self, Answer, Call, Reply};
+use reference::protocol;
 
 /// Both sides' words, equal after each call.
 pub struct Pair {
@@ -117,10 +117,19 @@ impl Pair {
     }
 }
 
+/// An answer as the bench program prints it, but with the splits of a delivery.
+pub fn told(reply: Reply) -> String {
+    let line = protocol::answer(reply);
+    match reply {
+        Ok(Answer::Splits(splits)) => format!("{line} ({splits} splits)"),
+        _ => line,
+    }
+}
+
 impl Display for Difference {
     fn fmt(&self, f: &mut Formatter<'_>) -> fmt::Result {
         writeln!(f, "call {:?} on {} words", self.call, self.lent)?;
-        let [found, expected] = [self.found, self.expected].map(answer);
+        let [found, expected] = [self.found, self.expected].map(told);
         write!(f, "answers {found}, expected {expected}")?;
         match &self.word {
             None => write!(f, "\nwords equal"),

@@ -22,6 +22,7 @@ pub struct Summary {
     books: Tally,
     damage: Tally,
     answers: Tally,
+    splits: Tally,
     edges: Tally,
 }
 
@@ -33,6 +34,7 @@ impl Summary {
             // Half of the books are damaged, and each gets several calls.
             damage: Tally::new(KINDS.map(|(name, _)| name), BOOKS_FOR_ALL / 2),
             answers: Tally::of_answers(refusal::CALLS, &[], 4 * BOOKS_FOR_ALL),
+            splits: Tally::of_splits(BOOKS_FOR_ALL),
             edges: Tally::new(edges::all(), EDGES_FOR_ALL),
         }
     }
@@ -52,6 +54,7 @@ impl Summary {
     /// Counts an answer on which both sides agree, to a call on a book of this shape at this clock.
     pub fn add_reply(&mut self, shape: Shape, clock: u32, call: Call, reply: Reply) {
         self.answers.add_answer(&protocol::answer(reply));
+        self.splits.add_splits(reply);
         for kind in edges::kinds(shape, clock, call, reply) {
             self.edges.add(&kind);
         }
@@ -74,7 +77,13 @@ impl Summary {
 
     /// What never occurred in a run that is long enough for it.
     pub fn faults(&self) -> Vec<String> {
-        let tallies = [&self.books, &self.damage, &self.answers, &self.edges];
+        let tallies = [
+            &self.books,
+            &self.damage,
+            &self.answers,
+            &self.splits,
+            &self.edges,
+        ];
         tallies.into_iter().flat_map(Tally::faults).collect()
     }
 }
@@ -90,6 +99,7 @@ impl Display for Summary {
         let (books, calls) = (self.books(), self.calls());
         write!(f, "{books} books ({}), {calls} calls, ", self.books)?;
         write!(f, "all equal; {}", self.answers)?;
+        write!(f, "; deliveries: {}", self.splits)?;
         write!(f, "; edges met: {}", self.edges.total())
     }
 }

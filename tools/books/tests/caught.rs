@@ -142,7 +142,7 @@ fn starts_of_blocks_modulo_2_to_the_32() {
             let (shape, _) = sound_head(decode_head(book)).expect("3 comes after 7");
             let start = grade.wrapping_mul(shape.block_length() as u32);
             if (start as usize) < book.len() - layout::HEAD_WORDS {
-                return Ok(Answer::Done);
+                return Ok(Answer::Splits(0));
             }
         }
         reply

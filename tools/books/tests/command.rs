@@ -4,7 +4,7 @@ use books::command::read;
 use books::pair::{Difference, WordDifference};
 use books::run::run;
 use options::{Trials, Words};
-use reference::calls::Call;
+use reference::calls::{Answer, Call};
 
 #[test]
 fn options() {
@@ -49,5 +49,24 @@ fn a_difference_in_words() {
     let text = "call Clock { clock: 3 } on 90 words\n\
                 answers refused 7, expected refused 11\n\
                 word 4 is 3, expected 1, before 1";
+    assert_eq!(difference.to_string(), text);
+}
+
+#[test]
+fn a_difference_in_splits() {
+    let difference = Difference {
+        call: Call::Delivery {
+            grade: 0,
+            stamp: 1,
+            volume: 9,
+        },
+        lent: 90,
+        expected: Ok(Answer::Splits(3)),
+        found: Ok(Answer::Splits(0)),
+        word: None,
+    };
+    let text = "call Delivery { grade: 0, stamp: 1, volume: 9 } on 90 words\n\
+                answers ok (0 splits), expected ok (3 splits)\n\
+                words equal";
     assert_eq!(difference.to_string(), text);
 }

@@ -1,5 +1,5 @@
 //! A usual run finds the faults that docs/SPECIFICATION.md lists in section 14. Those of windows and
-//! lateness are in windows.rs.
+//! lateness are in windows.rs, those of the count of splits in splits.rs.
 
 mod wrong;
 
@@ -8,18 +8,8 @@ use reference::histogram::{Bucket, Histogram, Level};
 use reference::layout;
 use reference::shape::Shape;
 use reference::window::opening;
-use reference::words::{decode_block, decode_head, encode_block};
-use wrong::{assert_equal, difference};
-
-fn shape_of(book: &[u32]) -> Shape {
-    let [k, n, m, g] = decode_head(book).shape;
-    Shape::new(k, n, m, g).expect("an accepted call")
-}
-
-fn halves(book: &[u32], grade: u32) -> [Histogram; 2] {
-    let shape = shape_of(book);
-    decode_block(shape, &book[shape.block(grade)]).map(|raw| raw.histogram())
-}
+use reference::words::encode_block;
+use wrong::{assert_equal, difference, halves, shape_of};
 
 /// The second program, but an accepted delivery changes the levels from 1 on by this function.
 fn delivering(
@@ -52,7 +42,7 @@ fn delivering(
 #[test]
 fn nothing_changed() {
     let insert = |level: &mut Level, shape: Shape, index: usize, offset: u64, volume: u64| {
-        (0..volume).for_each(|_| level.insert_unit(shape, index, offset));
+        level.insert(shape, index, offset, volume);
     };
     assert_equal(delivering(insert));
     assert_equal(answering(Histogram::sum_from));

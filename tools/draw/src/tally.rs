@@ -4,8 +4,11 @@ use std::collections::BTreeMap;
 use std::fmt::{self, Display, Formatter};
 use std::process::ExitCode;
 
-use reference::calls::Answer;
+use reference::calls::{Answer, Reply};
 use reference::protocol;
+
+/// The kinds of deliveries by their splits.
+const SPLITS: [&str; 3] = ["no split", "one split", "several splits"];
 
 /// Counts by kind.
 #[derive(Clone, Debug, PartialEq, Eq)]
@@ -35,6 +38,11 @@ impl Tally {
         Tally::new(kinds.map(|answer| answer_kind(&answer)), enough)
     }
 
+    /// For accepted deliveries: how many buckets each of them split.
+    pub fn of_splits(enough: u64) -> Tally {
+        Tally::new(SPLITS, enough)
+    }
+
     /// Counts one thing of a kind.
     pub fn add(&mut self, kind: &str) {
         *self.counts.entry(kind.to_string()).or_default() += 1;
@@ -43,6 +51,17 @@ impl Tally {
     /// Counts an answer as the bench program prints it.
     pub fn add_answer(&mut self, answer: &str) {
         self.add(&answer_kind(answer));
+    }
+
+    /// Counts the splits of an accepted delivery; other answers have none to count.
+    pub fn add_splits(&mut self, reply: Reply) {
+        let [none, one, several] = SPLITS;
+        match reply {
+            Ok(Answer::Splits(0)) => self.add(none),
+            Ok(Answer::Splits(1)) => self.add(one),
+            Ok(Answer::Splits(_)) => self.add(several),
+            _ => {}
+        }
     }
 
     /// How often a kind occurred.

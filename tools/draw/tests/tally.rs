@@ -1,6 +1,7 @@
 //! Counts by kind, and what a long run must show.
 
 use draw::tally::Tally;
+use reference::calls::Answer;
 
 const ENOUGH: u64 = 100;
 
@@ -39,6 +40,25 @@ fn kinds_that_cannot_occur_are_faults() {
         let faults = tally(&["ok", answer]).faults();
         assert_eq!(faults, [format!("unexpected: {answer}")]);
     }
+}
+
+#[test]
+fn splits_of_accepted_deliveries_are_counted() {
+    let mut tally = Tally::of_splits(4);
+    for reply in [Ok(Answer::Done), Ok(Answer::Sum(1)), Err(12)] {
+        tally.add_splits(reply);
+    }
+    assert_eq!(tally.total(), 0);
+    for splits in [0, 2, 0, 480] {
+        tally.add_splits(Ok(Answer::Splits(splits)));
+    }
+    assert_eq!(
+        tally.to_string(),
+        "no split: 2, one split: 0, several splits: 2"
+    );
+    assert_eq!(tally.faults(), ["never occurred: one split"]);
+    tally.add_splits(Ok(Answer::Splits(1)));
+    assert!(tally.faults().is_empty());
 }
 
 #[test]

@@ -1,8 +1,11 @@
 //! Wrong stand-ins: the second program with one thing changed.
 
+#![allow(dead_code)] // Each of the tests needs only some of this.
+
 use books::run::{run, Failure};
 use books::summary::BOOKS_FOR_ALL;
 use reference::calls::{perform, Answer, Call, Reply};
+use reference::histogram::Histogram;
 use reference::shape::Shape;
 use reference::soundness::{block_faults, sound_head, Fault};
 use reference::words::{decode_block, decode_head, RawHistogram};
@@ -19,8 +22,19 @@ pub fn assert_equal(stand_in: impl Fn(&mut [u32], Call) -> Reply) {
     assert_eq!(summary.faults(), Vec::<String>::new());
 }
 
+/// The shape of a book that a call accepted.
+pub fn shape_of(book: &[u32]) -> Shape {
+    let [k, n, m, g] = decode_head(book).shape;
+    Shape::new(k, n, m, g).expect("an accepted call")
+}
+
+/// The two halves of a grade.
+pub fn halves(book: &[u32], grade: u32) -> [Histogram; 2] {
+    let shape = shape_of(book);
+    decode_block(shape, &book[shape.block(grade)]).map(|raw| raw.histogram())
+}
+
 /// The second program, but blocks pass whose faults are all forgiven.
-#[allow(dead_code)] // Only some of the tests need it.
 pub fn forgiving(
     forgiven: impl Fn(Shape, &RawHistogram, Fault) -> bool,
 ) -> impl Fn(&mut [u32], Call) -> Reply {
@@ -39,7 +53,7 @@ pub fn forgiving(
         };
         let (answer, inspected) = match call {
             Call::Query { grade, .. } => (Answer::Sum(0), grade..grade + 1),
-            Call::Delivery { grade, .. } => (Answer::Done, grade..grade + 1),
+            Call::Delivery { grade, .. } => (Answer::Splits(0), grade..grade + 1),
             _ => (Answer::Done, 0..shape.g()),
         };
         if inspected.into_iter().all(passes) {

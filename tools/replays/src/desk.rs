@@ -7,7 +7,7 @@ use std::ops::Range;
 
 use books::pair::{Pair, WordDifference};
 use draw::random::Random;
-use reference::calls::{Answer, Call, Reply};
+use reference::calls::{Call, Reply};
 use reference::replay::{self, answer_words, ANSWER_WORDS};
 
 use crate::difference::{Asked, Difference, Of, What};
@@ -92,8 +92,9 @@ impl Desk {
         assert!(!refused_writes, "the second program: {asked:?}");
         let mut theirs = before.clone();
         let found = implementation.replay(self.lent(&mut theirs, asked));
-        if found != expected {
-            let [expected, found] = [expected, found].map(|reply| reply.err().unwrap_or(0));
+        if found.err() != expected.as_ref().err().copied() {
+            let refusals = [expected.err(), found.err()];
+            let [expected, found] = refusals.map(|number| number.unwrap_or(0));
             return Err(asked.difference(What::Number { expected, found }));
         }
         if let Some((of, word)) = self.first_word(&before, &ours, &theirs) {
@@ -104,17 +105,17 @@ impl Desk {
         if let Some(word) = WordDifference::first(&kept, &kept, left, MARGIN) {
             return Err(asked.difference(What::Replayed(Of::Trace, word)));
         }
-        let calls = replay::calls(trace, day, room);
+        let calls = replay::calls(trace, day, room).unwrap_or_default();
         let mut apart = before.clone();
         let lent = self.lent(&mut apart, asked);
-        one_by_one(implementation, lent, calls.as_deref().unwrap_or(&[]));
+        let replies = one_by_one(implementation, lent, &calls);
         if let Some((of, word)) = self.first_word(&before, &theirs, &apart) {
             return Err(asked.difference(What::Apart(of, word)));
         }
+        let outcome: Outcome = expected.map(|replies| calls.into_iter().zip(replies).collect());
+        check_replies(asked, outcome.as_deref().unwrap_or(&[]), &replies)?;
         self.words = ours.book;
-        let answers = ours.answers[MARGIN..].chunks(ANSWER_WORDS);
-        let answered = |(call, words)| (call, reply(call, words));
-        Ok(calls.map(|calls| calls.into_iter().zip(answers).map(answered).collect()))
+        Ok(outcome)
     }
 
     /// Words for the answers and around them, none of which an answer is likely to be.
@@ -173,6 +174,23 @@ fn check_part(implementation: &impl Implementation, asked: Asked) -> Result<(), 
     Err(asked.difference(What::Part { expected, found }))
 }
 
+/// The answer words have been compared; the replies also tell the splits of deliveries.
+fn check_replies(
+    asked: Asked,
+    expected: &[(Call, Reply)],
+    found: &[Reply],
+) -> Result<(), Box<Difference>> {
+    let mut both = expected.iter().zip(found);
+    match both.find(|((_, expected), found)| expected != *found) {
+        None => Ok(()),
+        Some((&(call, expected), &found)) => Err(asked.difference(What::Reply {
+            call,
+            expected,
+            found,
+        })),
+    }
+}
+
 /// Where a part stands in a trace, if it is one.
 fn place(trace: &[u32], part: &[u32]) -> Option<Range<usize>> {
     let [first, start] = [trace, part].map(|words| words.as_ptr().addr());
@@ -181,19 +199,13 @@ fn place(trace: &[u32], part: &[u32]) -> Option<Range<usize>> {
     (end <= trace.len()).then_some(start..end)
 }
 
-/// The implementation's own calls, with their answers written as a replay writes them.
-fn one_by_one(implementation: &impl Implementation, lent: Lent, calls: &[Call]) {
+/// The replies to the implementation's own calls, also written as a replay writes its answers.
+fn one_by_one(implementation: &impl Implementation, lent: Lent, calls: &[Call]) -> Vec<Reply> {
     let places = lent.answers.chunks_mut(ANSWER_WORDS);
-    for (call, place) in calls.iter().zip(places) {
-        place.copy_from_slice(&answer_words(implementation.perform(lent.book, *call)));
-    }
-}
-
-/// What the words of an answer say of a call.
-fn reply(call: Call, words: &[u32]) -> Reply {
-    match (words[0], call) {
-        (0, Call::Query { .. }) => Ok(Answer::Sum(words[1].into())),
-        (0, _) => Ok(Answer::Done),
-        (number, _) => Err(number),
-    }
+    let answered = calls.iter().zip(places).map(|(call, place)| {
+        let reply = implementation.perform(lent.book, *call);
+        place.copy_from_slice(&answer_words(reply));
+        reply
+    });
+    answered.collect()
 }

@@ -3,7 +3,7 @@
 use std::fmt::{self, Display, Formatter};
 use std::ops::Range;
 
-use books::pair::{self, WordDifference};
+use books::pair::{self, told, WordDifference};
 use reference::calls::{Call, Reply};
 use reference::protocol::answer;
 
@@ -69,6 +69,15 @@ pub enum What {
     Replayed(Of, WordDifference),
     /// A word that the implementation's own calls leave, made one by one.
     Apart(Of, WordDifference),
+    /// The answer of one of these calls, in what a replay's words leave out.
+    Reply {
+        /// The call.
+        call: Call,
+        /// The second program's answer.
+        expected: Reply,
+        /// The implementation's.
+        found: Reply,
+    },
 }
 
 /// Whose word it is.
@@ -131,6 +140,17 @@ impl Display for What {
             }
             What::Replayed(of, word) => write!(f, "{of:?}: {word}"),
             What::Apart(of, word) => write!(f, "by separate calls, {of:?}: {word}"),
+            What::Reply {
+                call,
+                expected,
+                found,
+            } => {
+                let [found, expected] = [*found, *expected].map(told);
+                write!(
+                    f,
+                    "by separate calls, {call:?}: {found}, expected {expected}"
+                )
+            }
         }
     }
 }

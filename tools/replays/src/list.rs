@@ -104,6 +104,7 @@ impl<'i, I: Implementation> List<'i, I> {
         found: Reply,
         summary: &mut Summary,
     ) -> Result<(), Box<Difference>> {
+        summary.add_splits(found);
         let expected = self.ledger.perform(call, self.desk.book().len());
         if let (Ok(Answer::Sum(exact)), Ok(Answer::Sum(sum))) = (expected, found) {
             let is_exact = exact == sum;
@@ -124,11 +125,12 @@ impl<'i, I: Implementation> List<'i, I> {
     }
 }
 
-/// Whether a book may answer this where its ledger answers that: under the same number, and with a sum
-/// within the bound.
+/// Whether a book may answer this where its ledger answers that: under the same number, with a sum
+/// within the bound, and with any count of splits, since the ledger has none.
 pub fn agrees(ledger: &Ledger, expected: Reply, found: Reply) -> bool {
     match (expected, found) {
         (Ok(Answer::Sum(exact)), Ok(Answer::Sum(sum))) => ledger.admits(exact, sum),
+        (Ok(Answer::Done), Ok(Answer::Splits(_))) => true,
         (expected, found) => expected == found,
     }
 }

@@ -5,6 +5,7 @@ use std::fmt::{self, Display, Formatter};
 use draw::book::Kind;
 use draw::tally::Tally;
 use draw::trace::{damage, met, Drawn, FORMS};
+use reference::calls::Reply;
 use reference::protocol::answer;
 use reference::refusal;
 
@@ -23,6 +24,7 @@ pub struct Summary {
     books: Tally,
     replays: Tally,
     answers: Tally,
+    splits: Tally,
     met: Tally,
     lists: Tally,
 }
@@ -58,6 +60,7 @@ impl Default for Summary {
                 TRACES_FOR_ALL,
             ),
             answers: Tally::of_answers(answers, &[], 4 * TRACES_FOR_ALL),
+            splits: Tally::of_splits(TRACES_FOR_ALL),
             met: Tally::new(met::all(), 8 * TRACES_FOR_ALL),
             lists: Tally::new(lists, TRACES_FOR_ALL / 4),
         }
@@ -102,10 +105,16 @@ impl Summary {
                 self.replays.add("replayed");
                 for (_, reply) in replies {
                     self.answers.add_answer(&answer(*reply));
+                    self.add_splits(*reply);
                 }
             }
             Err(number) => self.replays.add(&answer(Err(*number))),
         }
+    }
+
+    /// Counts the splits of a delivery on which both sides agree, by itself or in a replay.
+    pub fn add_splits(&mut self, reply: Reply) {
+        self.splits.add_splits(reply);
     }
 
     /// Counts what a list met.
@@ -132,6 +141,7 @@ impl Summary {
             &self.books,
             &self.replays,
             &self.answers,
+            &self.splits,
             &self.met,
             &self.lists,
         ];
@@ -144,11 +154,7 @@ impl Display for Summary {
         let (traces, replays) = (self.traces(), self.replays.total());
         write!(f, "{traces} traces ({}), {replays} replays, ", self.ways)?;
         write!(f, "all equal; {}; records: {}", self.replays, self.answers)?;
-        write!(
-            f,
-            "; lists: {}; kinds met: {}",
-            self.lists,
-            self.met.total()
-        )
+        write!(f, "; deliveries: {}; lists: {}", self.splits, self.lists)?;
+        write!(f, "; kinds met: {}", self.met.total())
     }
 }

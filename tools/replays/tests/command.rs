@@ -51,9 +51,12 @@ fn every_kind_is_met_often() {
 fn what_the_ledger_agrees_to() {
     let ledger = Ledger::new(Shape::new(2, 6, 9, 1).unwrap());
     let (done, sum) = (Ok(Answer::Done), |sum| Ok(Answer::Sum(sum)));
+    let splits = |splits| Ok(Answer::Splits(splits));
     // The bound is 6 / 3 of the exact sum.
     let same = [
         (done, done),
+        (done, splits(0)),
+        (done, splits(7)),
         (Err(8), Err(8)),
         (sum(10), sum(30)),
         (sum(10), sum(0)),
@@ -64,6 +67,8 @@ fn what_the_ledger_agrees_to() {
     let other = [
         (done, Err(8)),
         (Err(8), done),
+        (Err(8), splits(0)),
+        (sum(0), splits(0)),
         (Err(8), Err(9)),
         (sum(10), sum(31)),
     ];
@@ -109,6 +114,14 @@ fn differences_in_words() {
         (
             What::Apart(Of::Book, word),
             "by separate calls, Book: word 4 is 3, expected 1, before 1",
+        ),
+        (
+            What::Reply {
+                call: Call::Clock { clock: 3 },
+                expected: Ok(Answer::Splits(2)),
+                found: Ok(Answer::Splits(3)),
+            },
+            "by separate calls, Clock { clock: 3 }: ok (3 splits), expected ok (2 splits)",
         ),
     ];
     for (what, text) in texts {

@@ -6,7 +6,7 @@ use reference::calls::{perform, Answer, Call, Reply};
 use reference::replay::{answer_words, calls, replay, ANSWER_WORDS};
 use replays::difference::{Difference, Of, What};
 use replays::implementation::{Implementation, Lent};
-use replays::run::{run, Failure};
+use replays::run::run;
 use wrong::{assert_equal, difference};
 
 /// The second program, but this runs the calls of an accepted replay and writes the answers.
@@ -129,6 +129,7 @@ fn the_next_day_replayed() {
             lent.by(|book, trace, day, answers| {
                 let next = replay(book, trace, day + 1, answers);
                 next.or_else(|_| replay(book, trace, day, answers))
+                    .map(drop)
             })
         }
     }
@@ -147,7 +148,7 @@ fn answers_without_a_book() {
 #[test]
 fn wrong_answer_words() {
     type Write = fn(&mut [u32], Reply);
-    let writes: [(&str, Write); 5] = [
+    let writes: [(&str, Write); 6] = [
         ("the number twice", |place, reply| {
             right(place, reply);
             if place[0] != 0 {
@@ -175,6 +176,12 @@ fn wrong_answer_words() {
                 place[1] = 1;
             }
         }),
+        ("the splits as a sum", |place, reply| {
+            right(place, reply);
+            if let Ok(Answer::Splits(splits)) = reply {
+                place[1] = splits;
+            }
+        }),
     ];
     for (name, write) in writes {
         let found = ran(|book, calls, answers| answering(book, calls, answers, write));
@@ -200,7 +207,7 @@ impl<A: Fn(&mut [u32], &mut [u32], Result<(), u32>) -> Result<(), u32>> Implemen
     fn replay(&self, lent: Lent) -> Result<(), u32> {
         lent.by(|book, trace, day, answers| {
             let reply = replay(book, trace, day, answers);
-            (self.0)(book, answers, reply)
+            (self.0)(book, answers, reply.map(drop))
         })
     }
 }
@@ -240,28 +247,61 @@ fn a_bad_book_refuses_the_replay() {
     }
 }
 
-/// Both sides agree on each replay, but the implementation's own calls do something else.
-#[test]
-fn separate_calls_that_differ() {
-    struct Apart;
-    impl Implementation for Apart {
-        fn perform(&self, book: &mut [u32], call: Call) -> Reply {
-            match perform(book, call) {
-                Ok(Answer::Sum(sum)) => Ok(Answer::Sum(sum + 1)),
-                reply => reply,
-            }
+/// The second program, but a call by itself answers this in place of its answer.
+struct Apart<A>(A);
+
+impl<A: Fn(Answer) -> Answer> Implementation for Apart<A> {
+    fn perform(&self, book: &mut [u32], call: Call) -> Reply {
+        perform(book, call).map(&self.0)
+    }
+}
+
+/// A usual run finds such a change where a list makes the call, and also after a replay on which both
+/// sides agree; there it is this that differs.
+fn assert_apart(name: &str, change: fn(Answer) -> Answer, after_replay: fn(&What) -> bool) {
+    let apart = Apart(change);
+    // A run ends with its first difference, so each trace is run by itself.
+    let each = (0..24_000).filter_map(|trace| run(&apart, 1, trace..trace + 1).err());
+    let (mut in_list, mut in_replay) = (false, false);
+    for failure in each {
+        match *failure.difference {
+            Difference::Call(_) => in_list = true,
+            Difference::Day { what, .. } => in_replay |= after_replay(&what),
+            Difference::Ledger { .. } => {}
+        }
+        if in_list && in_replay {
+            return;
         }
     }
-    // A call of a list may differ earlier, so each trace is run by itself until one differs in this.
-    let mut each = (0..24_000).filter_map(|trace| run(&Apart, 1, trace..trace + 1).err());
-    let is_apart = |failure: Box<Failure>| {
-        matches!(
-            *failure.difference,
-            Difference::Day {
-                what: What::Apart(Of::Answers, _),
-                ..
-            }
-        )
+    panic!("{name}: in a list {in_list}, after a replay {in_replay}");
+}
+
+#[test]
+fn separate_calls_that_differ() {
+    let change = |answer| match answer {
+        Answer::Sum(sum) => Answer::Sum(sum + 1),
+        answer => answer,
     };
-    assert!(each.any(is_apart));
+    assert_apart("another sum", change, |what| {
+        matches!(what, What::Apart(Of::Answers, _))
+    });
+}
+
+/// A replay's words do not tell the splits, so only the separate calls can show them.
+#[test]
+fn separate_deliveries_with_other_splits() {
+    type Change = fn(Answer) -> Answer;
+    let changes: [(&str, Change); 2] = [
+        ("always 0", |answer| match answer {
+            Answer::Splits(_) => Answer::Splits(0),
+            answer => answer,
+        }),
+        ("one too many", |answer| match answer {
+            Answer::Splits(splits) => Answer::Splits(splits + 1),
+            answer => answer,
+        }),
+    ];
+    for (name, change) in changes {
+        assert_apart(name, change, |what| matches!(what, What::Reply { .. }));
+    }
 }

@@ -159,11 +159,11 @@ uint32_t litres_day(const uint32_t *trace, size_t trace_len, uint32_t day, size_
 /*
  * Runs the records of a day one after another, each exactly as its own call on the book, and writes
  * LITRES_ANSWER_WORDS words for each to `answers`: 0 or the number of its refusal, then the sum of
- * an answered question or 0. Halvings are not told. A refused record does not stop the ones after
- * it. A book that is damaged or of another length is no reason to refuse the replay: each record is
- * answered as its own call would be, and where that call meets the damage, 2, 7 or 11 stands in its
- * answer. Words of `answers` past those of the last record are left. An empty day needs no answer
- * words.
+ * an answered question or 0. Halvings are not written. A refused record does not stop the ones
+ * after it. A book that is damaged or of another length is no reason to refuse the replay: each
+ * record is answered as its own call would be, and where that call meets the damage, 2, 7 or 11
+ * stands in its answer. Words of `answers` past those of the last record are left. An empty day
+ * needs no answer words.
  * Refused, in this order: 13 (any record of any day counts), 14, 15. Then no record is run.
  */
 uint32_t litres_replay(uint32_t *book, size_t len, const uint32_t *trace, size_t trace_len,

@@ -13,6 +13,9 @@ query-requires c κs = search needs
 enum-told : tie.Need-enum-told
 enum-told c = search needs
 
+enum-told-2 : tie.Need-enum-told-2
+enum-told-2 c = search needs
+
 enum-known-total : tie.Need-enum-known-total
 enum-known-total c = search needs
 
@@ -31,12 +34,18 @@ returns c =
 returns-2 : tie.Need-returns-2
 unfolding replyOf
 returns-2 c =
-    let held = c .before .before .before .before .before .args .sum .now in
-    told-sum (sym (c .before .total .given .1)) (c .before .before .before .query .ensures) held
+    let held = c .before .before .before .before .args .sum .now in
+    told-sum (sym (c .enum-told2 .given .1)) (c .before .before .query .ensures) held
 
 returns-3 : tie.Need-returns-3
 unfolding replyOf
 returns-3 c =
+    let held = c .before .before .before .before .before .args .sum .now in
+    told-sum (sym (c .before .total .given .1)) (c .before .before .before .query .ensures) held
+
+returns-4 : tie.Need-returns-4
+unfolding replyOf
+returns-4 c =
     let held = c .before .before .before .before .before .before .args .sum .now in
     ap (λ (n : ℕ). (n, held)) (c .number .ensures) ∙ told-sum (sym (c .before .before .why .given .1)) (c .before .before .before .before .query .ensures) held
 
@@ -46,9 +55,11 @@ litres-query-spec =
     (tie.spec
     query-requires
     enum-told
+    enum-told-2
     enum-known-total
     enum-known-why
     number-requires
     returns
     returns-2
-    returns-3)
+    returns-3
+    returns-4)

@@ -51,7 +51,8 @@ returns c =
     let a = l .before .block-start .result in
     let e = a + l .block-len .result in
     let d = l .before .before .before in
-    rw (c .before .before .deliver-block .ensures, post-is a e (d .args .book .now) (omega arith), l .before .block-start .ensures, l .block-len .ensures, add-sub-cancel-left)
+    let done = c .before .before .deliver-block .ensures in
+    rw (done .1, done .0, post-is a e (d .args .book .now) (omega arith), l .before .block-start .ensures, l .block-len .ensures, add-sub-cancel-left)
     (delivered-outcome (d .args .book .now) (d .args .shape) (d .args .grade) (d .args .stamp) (d .args .volume) (d .pre .0) (d .pre .1))
 
 pub deliver-spec : {M : Type 1} → statement M

@@ -20,6 +20,15 @@ slice-aggregate-copy c = search needs
 copy-requires : tie.Need-copy-requires
 copy-requires c κs = search needs
 
+enum-told-2 : tie.Need-enum-told-2
+enum-told-2 c = search needs
+
+slice-aggregate-copy-2 : tie.Need-slice-aggregate-copy-2
+slice-aggregate-copy-2 c = search needs
+
+copy-requires-2 : tie.Need-copy-requires-2
+copy-requires-2 c κs = search needs
+
 enum-known-a : tie.Need-enum-known-a
 enum-known-a c = search needs
 
@@ -58,17 +67,28 @@ same-length-2 c = search needs
 returns-3 : tie.Need-returns-3
 unfolding textOf replyOf
 returns-3 c =
+    let t = c .before .before .before .before .before in
+    let b = t .before .before in
+    rw (t .enum-told2 .given .1)
+    (stored-front (textOf (replyOf Done)) (b .before .before .args .out .now) (b .if1 .left) (omega arith) (c .before .before .copy2 .ensures))
+
+same-length-3 : tie.Need-same-length-3
+same-length-3 c = search needs
+
+returns-4 : tie.Need-returns-4
+unfolding textOf replyOf
+returns-4 c =
     let t = c .before .before .before .before .before .before in
     let b = t .before .before in
     let sum = t .a .given .0 .0 in
     rw (t .a .given .1)
     (stored-front (textOf (replyOf (Sum sum))) (b .before .before .args .out .now) (b .if1 .left) (numbered-fits sumWord sum (omega arith)) (c .before .before .line-of .ensures))
 
-same-length-3 : tie.Need-same-length-3
-same-length-3 c = search needs
+same-length-4 : tie.Need-same-length-4
+same-length-4 c = search needs
 
-returns-4 : tie.Need-returns-4
-returns-4 c =
+returns-5 : tie.Need-returns-5
+returns-5 c =
     let n = c .before .before .before .before in
     let t = n .before .before .before in
     let b = t .before .before in
@@ -84,6 +104,9 @@ answer-spec =
     enum-told
     slice-aggregate-copy
     copy-requires
+    enum-told-2
+    slice-aggregate-copy-2
+    copy-requires-2
     enum-known-a
     slice-aggregate-line-of
     line-of-requires
@@ -96,4 +119,6 @@ answer-spec =
     same-length-2
     returns-3
     same-length-3
-    returns-4)
+    returns-4
+    same-length-4
+    returns-5)

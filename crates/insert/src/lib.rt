@@ -136,7 +136,7 @@ pub fn insert(level: &mut [u32], s: Shape, i: u8, x: u32, v: u64) -> u32
     }
     if i == 0 {
         insert_single(level, s, x, v);
-        return 0;
+        return 0; // Buckets of width 1 never split.
     }
     let j = find(level, x);
     insert_splitting(level, s.n as usize, i, x, v, j)

@@ -63,7 +63,7 @@ pub extern "C" fn litres_query(book: &[u32], grade: u32, window: u32, sum: &mut 
 {
     match summary::query(book, grade, window) {
         Answer::Done => 0,
-        Answer::Inserted(_) => 0,
+        Answer::Splits(_) => 0,
         Answer::Sum(total) => {
             *sum = total;
             0

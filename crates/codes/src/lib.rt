@@ -32,7 +32,7 @@ pub fn answer_number(answer: Answer) -> u32
 {
     match answer {
         Answer::Done => 0,
-        Answer::Inserted(_) => 0,
+        Answer::Splits(_) => 0,
         Answer::Sum(_) => 0,
         Answer::Refused(why) => number(why),
     }
@@ -44,7 +44,7 @@ pub fn answer_splits(answer: Answer) -> u32
 {
     match answer {
         Answer::Done => 0,
-        Answer::Inserted(splits) => splits,
+        Answer::Splits(splits) => splits,
         Answer::Sum(_) => 0,
         Answer::Refused(_) => 0,
     }

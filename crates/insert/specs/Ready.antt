@@ -16,7 +16,7 @@ use Rattle.laws.specs.Cond.{lt-or-ge}
 use Rattle.laws.specs.Bucket.{halves}
 use Rattle.laws.specs.Add.{Halved, halved}
 use Rattle.laws.specs.Insert.{insert-below}
-use Rattle.laws.specs.Splits.{Halvable, splits-below, none, cut-splits, splits-most}
+use Rattle.laws.specs.Splits.{Halvable, splits-below, held-splits, cut-splits, splits-most}
 use Rattle.laws.specs.LevelWords.{decode-encode}
 use Rattle.laws.specs.LevelWrites.{slot-encode, set-weight}
 use Rattle.laws.specs.Evict.{count-parts, Passed, passed-snoc, Round, both, upper, upper-held, upper-split, one-round}
@@ -114,7 +114,7 @@ module _ {n i x v j : ℕ} {ws : List ℕ} (r : Ready n i x v j ws) where
 
   -- the bucket takes all of v and is not split
   pub no-splits : (1 < slot ws j .width → slot ws j .weight + v < 2 ^ suc i) → insertSplits n i x v (decodeLevel ws) ≡ 0
-  no-splits room = ap (insertSplits n i x v) level-is ∙ none n i x (r .limits .low) halvable v room
+  no-splits room = ap (insertSplits n i x v) level-is ∙ held-splits n i x (r .limits .low) halvable v room
 
   -- the bucket takes all of v
   pub filled : (1 < slot ws j .width → slot ws j .weight + v < 2 ^ suc i)

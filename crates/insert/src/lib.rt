@@ -1,4 +1,4 @@
-// Writing one level of a histogram, on its part of the words: SPECIFICATION 4.5.
+// Writing one level of a histogram, on its part of the words: SPECIFICATION 4.5 and 4.6.
 use buckets::gain;
 use buckets::put_at;
 use buckets::split_at;

@@ -76,12 +76,12 @@ module _ (n i x : ℕ) (from : 0 < i) where
     )
 
     -- the bucket does not get full
-    pub none : (v : ℕ) → (1 < b .width → b .weight + v < 2 ^ suc i) → insertSplits n i x v level ≡ 0
+    pub held-splits : (v : ℕ) → (1 < b .width → b .weight + v < 2 ^ suc i) → insertSplits n i x v level ≡ 0
     unfolding insertSplits
-    none zero room = refl
-    none (suc v) room =
+    held-splits zero room = refl
+    held-splits (suc v) room =
         let less : 1 < b .width → b .weight + v < 2 ^ suc i = λ long. omega (arith, room long) in
-        let before-it = none v less in
+        let before-it = held-splits v less in
         counted v less
         ∙ by-both (λ z. insertSplits n i x v level + z ≡ 0) (eqb (suc (b .weight + v)) (2 ^ suc i)) (ltb 1 (b .width))
         (λ full long. absurd (omega (arith, eqb→eq (suc (b .weight + v)) (2 ^ suc i) full, room (ltb→lt 1 (b .width) long)))) (λ _. omega (arith, before-it))
@@ -91,7 +91,7 @@ module _ (n i x : ℕ) (from : 0 < i) where
     unfolding insertSplits
     filling v long full =
         let room : 1 < b .width → b .weight + v < 2 ^ suc i = λ _. omega arith in
-        counted v room ∙ rw (none v room, eq-eqb (suc (b .weight + v)) (2 ^ suc i) full, lt-ltb 1 (b .width) long)
+        counted v room ∙ rw (held-splits v room, eq-eqb (suc (b .weight + v)) (2 ^ suc i) full, lt-ltb 1 (b .width) long)
 
     filled : (v : ℕ) → 1 < b .width → suc (b .weight + v) ≡ 2 ^ suc i → insert n i x (suc v) level ≡ evict n i f (before ++ (halves i b ++ after))
     unfolding insert
@@ -152,10 +152,10 @@ module _ (n i x : ℕ) (from : 0 < i) where
 
   pub splits-most : (size v f : ℕ) (before : List Bucket) (b : Bucket) (after : List Bucket) → Halvable n i x f before b after size
       → insertSplits n i x v (levelOf f (before ++ b ∷ after)) ≤ size
-  splits-most zero v f before b after h = omega (arith, none h v (λ long. absurd (omega (arith, h .power))))
+  splits-most zero v f before b after h = omega (arith, held-splits h v (λ long. absurd (omega (arith, h .power))))
   splits-most (suc size) v f before b after h =
       ⊎-elim
-      (λ (room : b .weight + v < 2 ^ suc i). omega (arith, none h v (λ _. room)))
+      (λ (room : b .weight + v < 2 ^ suc i). omega (arith, held-splits h v (λ _. room)))
       (λ (full : 2 ^ suc i ≤ b .weight + v).
       let long : 1 < b .width = omega (arith, h .power, pow-suc 2 size, pow-pos size) in
       let rest : ℕ = b .weight + v - 2 ^ suc i in

@@ -9,7 +9,7 @@ use native.Mathlib.Omega.{arith}
 use lib.Dec.{eqb}
 use lib.ListN.{length, getD}
 use Rattle.shape.specs.declared.Shape.{Shape}
-use Rattle.shape.specs.Limits.{Reply, accepted, inserted, refused}
+use Rattle.shape.specs.Limits.{Reply, accepted, splitting, refused}
 use Rattle.shape.specs.Layout.{headLen, bookWords, blockWords, blockStart}
 use Rattle.model.specs.declared.Call.{Call}
 use Rattle.model.specs.declared.Call.the-variants.{Delivery, Query}
@@ -63,7 +63,7 @@ question grade window = record {
 delivery : (grade stamp volume : ℕ) → OfGrade grade (Delivery grade stamp volume)
 unfolding perform refusals bookView
 delivery grade stamp volume = record {
-  done = λ s clock b. inserted (deliverSplits s stamp volume b);
+  done = λ s clock b. splitting (deliverSplits s stamp volume b);
   told = λ ws. settled (refusals (bookView ws) (Delivery grade stamp volume)) ws (accept ws (Delivery grade stamp volume));
 }
 

@@ -72,7 +72,7 @@ fn lent_after(answer: Answer, before: usize, lent: usize) -> usize
 {
     match answer {
         Answer::Done => lent,
-        Answer::Inserted(_) => lent,
+        Answer::Splits(_) => lent,
         Answer::Sum(_) => lent,
         Answer::Refused(_) => before,
     }

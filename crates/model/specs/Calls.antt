@@ -6,7 +6,7 @@ use lib.Dec.{ltb, eqb}
 use lib.ListN.{length, replicate}
 use Rattle.shape.specs.declared.Shape.{Shape}
 use Rattle.shape.specs.Layout.{headLen, bookWords}
-use Rattle.shape.specs.Limits.{Reply, refused, accepted, inserted, within, shaped}
+use Rattle.shape.specs.Limits.{Reply, refused, accepted, splitting, within, shaped}
 use Rattle.model.specs.declared.Call.{Call}
 use Rattle.model.specs.declared.Call.the-variants.{Make, Clock, Delivery, Query}
 use Rattle.model.specs.Block.{Block, emptyHalf, deliver, deliverSplits, advance, windowSum, late, interval, halfOf, upFrom}
@@ -74,7 +74,7 @@ delivered s grade stamp volume ws = withBlock s grade (encodeBlock s (deliver s 
 abbrev pub accept : List ℕ → Call → Outcome (List ℕ)  -- SPECIFICATION 5.2 to 5.5: an accepted call
 accept ws (Make k n m g) = outcomeOf (accepted []) (made (shaped k n m g))
 accept ws (Clock clock) = outcomeOf (accepted []) (clocked (shapeOf ws) clock ws)
-accept ws (Delivery grade stamp volume) = outcomeOf (inserted (deliverSplits (shapeOf ws) stamp volume (blockAt ws grade))) (delivered (shapeOf ws) grade stamp volume ws)
+accept ws (Delivery grade stamp volume) = outcomeOf (splitting (deliverSplits (shapeOf ws) stamp volume (blockAt ws grade))) (delivered (shapeOf ws) grade stamp volume ws)
 accept ws (Query grade window) = outcomeOf (accepted (windowSum (shapeOf ws) (clockOf ws) window (blockAt ws grade) ∷ [])) ws
 
 unfoldable pub perform : List ℕ → Call → Outcome (List ℕ)  -- SPECIFICATION 5: a call on words of any length and content

@@ -33,7 +33,7 @@ holds b x = leb (b .offset) x && ltb x (b .offset + b .width)
 abbrev pub isFull : ℕ → Bucket → Bool  -- SPECIFICATION 4.3: after a gain at level i, the bucket has reached 2^(i+1) and is wider than 1
 isFull i b = eqb (b .weight) (2 ^ suc i) && ltb 1 (b .width)
 
-abbrev pub splitCount : ℕ → Bucket → ℕ  -- SPECIFICATION 4.6: how many splits that is; `split` below makes the same test
+abbrev pub splitCount : ℕ → Bucket → ℕ  -- SPECIFICATION 4.6: 1 where `split` splits the bucket, by the same test
 splitCount i b = cond (isFull i b) 1 0
 
 abbrev pub split : ℕ → Bucket → List Bucket  -- SPECIFICATION 4.3 ('halve' in the customer's paper): at level i a full bucket becomes two, each of half the width and of weight 2^i

@@ -19,9 +19,9 @@ pub firstAfter-zero : (b : Bucket) (rest : List Bucket) → firstAfter 0 b rest 
 firstAfter-zero b rest = add-one (b .offset)
 
 -- from level 1 on the buckets that a decilitre adds are those that it splits
-pub add-splits : (i x : ℕ) (bs : List Bucket) → length (add i x bs) ≡ length bs + addSplits i x bs
-add-splits i x [] = refl
-add-splits i x (b ∷ bs) = go (holds b x) (isFull i (gained b)) (add-splits i x bs)
+pub length-add : (i x : ℕ) (bs : List Bucket) → length (add i x bs) ≡ length bs + addSplits i x bs
+length-add i x [] = refl
+length-add i x (b ∷ bs) = go (holds b x) (isFull i (gained b)) (length-add i x bs)
   where
     go : (here full : Bool) → length (add i x bs) ≡ length bs + addSplits i x bs
         → length (cond here (cond full (bucketOf (b .offset) (b .width / 2) (2 ^ i) ∷ bucketOf (b .offset + b .width / 2) (b .width / 2) (2 ^ i) ∷ []) (gained b ∷ []) ++ bs) (b ∷ add i x bs))

@@ -1,11 +1,11 @@
 -- SPECIFICATION 5.1: the number, the values and the splits of each case of the code's answer. Assumes nothing.
 use mathlib.Core.List.{[], _∷_}
 use Prim.Native.Nat.{ℕ}
-use Rattle.shape.specs.Limits.{Reply, refused, accepted, inserted}
+use Rattle.shape.specs.Limits.{Reply, refused, accepted, splitting}
 use Rattle.model.specs.declared.Refusal.{Refusal}
 use Rattle.model.specs.declared.Refusal.the-variants.{Shape, Length, Grade, Volume, Window, Limit, Head, Ahead, Late, Back, Block, Full, Trace, Day, Room}
 use Rattle.model.specs.declared.Answer.{Answer}
-use Rattle.model.specs.declared.Answer.the-variants.{Done, Inserted, Sum, Refused}
+use Rattle.model.specs.declared.Answer.the-variants.{Done, Splits, Sum, Refused}
 
 abbrev pub numberOf : Refusal → ℕ  -- SPECIFICATION 6.2: the number of a refusal
 numberOf Shape = 1
@@ -26,6 +26,6 @@ numberOf Room = 15
 
 unfoldable pub replyOf : Answer → Reply  -- the number, 0 where accepted; the sum of an answered question; the splits of an accepted delivery
 replyOf Done = accepted []
-replyOf (Inserted splits) = inserted splits
+replyOf (Splits splits) = splitting splits
 replyOf (Sum sum) = accepted (sum ∷ [])
 replyOf (Refused r) = refused (numberOf r)

@@ -4,7 +4,7 @@ use mathlib.Core.List.{List, [], _∷_, _++_}
 use Prim.Native.Nat.{ℕ, suc}
 use lib.ListN.{replicate}
 use Rattle.shape.specs.declared.Shape.{Shape}
-use Rattle.shape.specs.Limits.{inserted, refused, within, shaped}
+use Rattle.shape.specs.Limits.{splitting, refused, within, shaped}
 use Rattle.shape.specs.Layout.{bookWords, blockWords, blockStart, levelStart}
 use Rattle.model.specs.declared.Call.the-variants.{Make, Clock, Delivery}
 use Rattle.model.specs.Level.{unit, insert, insertSplits, emptyLevel}
@@ -19,13 +19,13 @@ use Rattle.model.specs.Table.{answers, Example, Meets, example, d, p₁,
 abbrev pub splitsTable : List Example
 splitsTable =
     -- the deliveries of P1, P2, P3, P6 and P7
-    example [] (answers (d 0 3) (inserted 0) ∷ [])
-    ∷ example p₁ (answers (d 3 1) (inserted 1) ∷ [])
-    ∷ example p₂ (answers (d 1 1) (inserted 0) ∷ [])
-    ∷ example p₃ (answers (d 1 1) (inserted 1) ∷ [])
-    ∷ example p₆ (answers (d 2 2) (inserted 2) ∷ [])
+    example [] (answers (d 0 3) (splitting 0) ∷ [])
+    ∷ example p₁ (answers (d 3 1) (splitting 1) ∷ [])
+    ∷ example p₂ (answers (d 1 1) (splitting 0) ∷ [])
+    ∷ example p₃ (answers (d 1 1) (splitting 1) ∷ [])
+    ∷ example p₆ (answers (d 2 2) (splitting 2) ∷ [])
     -- that of P8, and one that is refused
-    ∷ example p₂ (answers (d 0 5) (inserted 2) ∷ answers (d 4 5) (refused 8) ∷ [])
+    ∷ example p₂ (answers (d 0 5) (splitting 2) ∷ answers (d 4 5) (refused 8) ∷ [])
     ∷ []
 
 pub splitsTable-holds : Each Meets splitsTable
@@ -34,16 +34,16 @@ splitsTable-holds = ((refl, tt), ((refl, tt), ((refl, tt), ((refl, tt), ((refl, 
 
 -- ---- a first delivery of 9 at stamp 1, k = 3, n = 2, M = 6
 
-abbrev wide : Shape
-wide = shaped 3 2 6 1
+abbrev shape₃₂₆ : Shape
+shape₃₂₆ = shaped 3 2 6 1
 
 -- the splits of each level, from level 0 on. At level 1 the second split evicts the half of stamp 1; what is left is ignored and splits nothing
-pub first-levels : upFrom (λ i. insertSplits (wide .n) i (offsetOf wide 1) 9 (emptyLevel (wide .k) i)) 0 (suc (wide .last)) ≡ 0 ∷ 2 ∷ 1 ∷ 0 ∷ 0 ∷ 0 ∷ 0 ∷ []
+pub first-levels : upFrom (λ i. insertSplits (shape₃₂₆ .n) i (offsetOf shape₃₂₆ 1) 9 (emptyLevel (shape₃₂₆ .k) i)) 0 (suc (shape₃₂₆ .last)) ≡ 0 ∷ 2 ∷ 1 ∷ 0 ∷ 0 ∷ 0 ∷ 0 ∷ []
 unfolding insertSplits insert unit
 first-levels = refl
 
 -- what the delivery reports
-pub first-delivery : perform (leftBy (replicate (bookWords wide) 0) (Make 3 2 6 1 ∷ Clock 7 ∷ [])) (Delivery 0 1 9) .reply ≡ inserted 3
+pub first-delivery : perform (leftBy (replicate (bookWords shape₃₂₆) 0) (Make 3 2 6 1 ∷ Clock 7 ∷ [])) (Delivery 0 1 9) .reply ≡ splitting 3
 unfolding perform refusals bookView made clocked delivered soundHead soundBlock soundHalf soundLevel within encodeBlock encodeLevel decodeBlock decodeHalf decodeLevel emptyHalf deliver deliverHalf deliverSplits advance unit insert insertSplits blockWords bookWords blockStart levelStart
 first-delivery = refl
 

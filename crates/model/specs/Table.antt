@@ -6,7 +6,7 @@ use Prim.Native.Nat.{ℕ}
 use lib.Dec.{ltb}
 use lib.ListN.{getD, set, replicate, take}
 use Rattle.shape.specs.declared.Shape.{Shape}
-use Rattle.shape.specs.Limits.{Reply, accepted, inserted, refused, within, shaped}
+use Rattle.shape.specs.Limits.{Reply, accepted, splitting, refused, within, shaped}
 use Rattle.model.specs.declared.Call.{Call}
 use Rattle.model.specs.declared.Call.the-variants.{Make, Clock, Delivery, Query}
 use Rattle.shape.specs.Layout.{bookWords, blockWords, blockStart, levelStart}
@@ -158,10 +158,10 @@ table =
     ∷ answers (q 5) (refused 5)
     ∷ answers (q 0) (accepted (0 ∷ []))
     ∷ exactly (q 0) (accepted (0 ∷ []))
-    ∷ answers (d 0 8) (inserted 2)
-    ∷ answers (d 1 8) (inserted 2)
-    ∷ answers (d 2 8) (inserted 2)
-    ∷ answers (d 3 8) (inserted 2)
+    ∷ answers (d 0 8) (splitting 2)
+    ∷ answers (d 1 8) (splitting 2)
+    ∷ answers (d 2 8) (splitting 2)
+    ∷ answers (d 3 8) (splitting 2)
     ∷ answers (d 0 9) (refused 12)
     ∷ answers (d 1 9) (refused 12)
     ∷ answers (d 2 9) (refused 12)
@@ -174,12 +174,12 @@ table =
     ∷ example (p₇ ++ d 2 2 ∷ []) (levelIs 1 (levelOf 2 (bucketOf 2 1 4 ∷ bucketOf 3 1 2 ∷ [])) ∷ [])
     -- P10
     ∷ example (p₇ ++ Clock 8 ∷ [])
-    (answers (d 5 1) (inserted 0)
+    (answers (d 5 1) (splitting 0)
     ∷ answers (d 4 1) (refused 9)
     ∷ answers (d 3 1) (refused 9)
     ∷ answers (d 9 1) (refused 8)
     -- what another interval holds does not count for 12
-    ∷ answers (d 8 9) (inserted 3)
+    ∷ answers (d 8 9) (splitting 3)
     ∷ exactly (d 8 9) (accepted [])
     ∷ [])
     -- at the first tick of an interval window 4 opens in the one before

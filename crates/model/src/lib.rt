@@ -27,7 +27,7 @@ pub enum Refusal {
 
 pub enum Answer {
     Done, // A make, a clock or a replay.
-    Inserted(u32), // A delivery: how many buckets it split.
+    Splits(u32), // A delivery: how many buckets it split.
     Sum(u64), // A question.
     Refused(Refusal),
 }

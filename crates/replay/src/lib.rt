@@ -26,7 +26,7 @@ fn answer_sum(answer: Answer) -> u32
 {
     match answer {
         Answer::Done => 0,
-        Answer::Inserted(_) => 0,
+        Answer::Splits(_) => 0,
         Answer::Sum(sum) => sum as u32,
         Answer::Refused(_) => 0,
     }

@@ -17,13 +17,13 @@ pub record Reply : Type 0 where
 abbrev pub refused : ℕ → Reply
 refused number = record { number = number; values = []; splits = 0 }
 
--- accepted, with these values; nothing was split
+-- accepted, with these values and no split
 abbrev pub accepted : List ℕ → Reply
 accepted values = record { number = 0; values = values; splits = 0 }
 
--- accepted, with no values; so many buckets were split
-abbrev pub inserted : ℕ → Reply
-inserted splits = record { number = 0; values = []; splits = splits }
+-- accepted, with no values and so many splits
+abbrev pub splitting : ℕ → Reply
+splitting splits = record { number = 0; values = []; splits = splits }
 
 -- x lies between two limits, both included
 abbrev pub between : ℕ → ℕ → ℕ → Bool

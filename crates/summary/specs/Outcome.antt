@@ -15,7 +15,7 @@ use Rattle.model.specs.declared.Call.{Call}
 use Rattle.model.specs.declared.Call.the-variants.{Make, Clock, Delivery, Query}
 use Rattle.model.specs.declared.Refusal.{Refusal}
 use Rattle.model.specs.declared.Refusal.the-variants.{Length}
-use Rattle.model.specs.declared.Answer.the-variants.{Done, Inserted, Sum, Refused}
+use Rattle.model.specs.declared.Answer.the-variants.{Done, Splits, Sum, Refused}
 use Rattle.model.specs.Block.{upFrom, interval, advance, deliver, deliverSplits, windowSum}
 use Rattle.model.specs.Words.{shapeOf, clockOf, blockPart, decodeBlock, encodeBlock, encodeHead, withBlock, join}
 use Rattle.model.specs.Sound.{soundBlock}
@@ -193,6 +193,6 @@ clocked-outcome ws s clock to o h = ap (outcomeOf (accepted [])) (clocked-swept 
 
 pub delivered-outcome : (ws : List ℕ) (s : Shape) (grade stamp volume : ℕ) → s ≡ shapeOf ws → firstRefusal ws (Delivery grade stamp volume) ≡ 0
     → let b = decodeBlock s (blockPart s grade ws) in
-    outcomeOf (replyOf (Inserted (deliverSplits s stamp volume b))) (withBlock s grade (encodeBlock s (deliver s stamp volume b)) ws) ≡ perform ws (Delivery grade stamp volume)
+    outcomeOf (replyOf (Splits (deliverSplits s stamp volume b))) (withBlock s grade (encodeBlock s (deliver s stamp volume b)) ws) ≡ perform ws (Delivery grade stamp volume)
 unfolding replyOf delivered
 delivered-outcome ws s grade stamp volume same h = rw same (sym (accepted-outcome ws (Delivery grade stamp volume) h))

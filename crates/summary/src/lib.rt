@@ -71,7 +71,7 @@ fn deliver(book: &mut [u32], shape: Shape, grade: u32, stamp: u32, volume: u32) 
 {
     let a = shape.block_start(grade);
     let e = a + shape.block_len();
-    Answer::Inserted(deliver_block(&mut book[a..e], shape, stamp, volume))
+    Answer::Splits(deliver_block(&mut book[a..e], shape, stamp, volume))
 }
 
 pub fn delivery(book: &mut [u32], grade: u32, stamp: u32, volume: u32) -> Answer

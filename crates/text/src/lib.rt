@@ -69,7 +69,7 @@ pub fn answer(a: Answer, out: &mut [u8]) -> usize
     }
     match a {
         Answer::Done => copy(b"ok\n", out, 0),
-        Answer::Inserted(_) => copy(b"ok\n", out, 0),
+        Answer::Splits(_) => copy(b"ok\n", out, 0),
         Answer::Sum(sum) => line_of(b"= ", sum, out),
         Answer::Refused(why) => line_of(b"refused ", number(why), out),
     }

@@ -10,7 +10,7 @@ enum { HOUR = 3600, DAY = 24 * HOUR };
 
 static uint32_t book[WORDS];
 
-/* The display link sends one message for each halving. */
+/* What a display link would send: a message whenever a bucket is halved. */
 static uint32_t messages;
 
 struct delivery {

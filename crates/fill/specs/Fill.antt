@@ -53,6 +53,6 @@ module _ (s : Shape) (stamp parity x v : ℕ) (ws : List ℕ) (f : Fills s stamp
       ≡ delivering s stamp v ws (suc i)
   level-filled = rw (f .half, f .place, levelPart-delivering s stamp v ws (t .whole) i low)
 
-  -- its splits and those of the levels after it are those from it on
+  -- its splits and those of the levels after it add up to `splitsFrom i`
   pub level-splits-on : insertSplits (s .n) i x v (decodeLevel (levelPart s parity i (delivering s stamp v ws i))) + splitsFrom s stamp v ws (suc i) ≡ splitsFrom s stamp v ws i
   level-splits-on = rw (f .half, f .place, levelPart-delivering s stamp v ws (t .whole) i low) (sym (splitsFrom-step s stamp v ws i low))

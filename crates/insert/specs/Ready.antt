@@ -22,7 +22,7 @@ use Rattle.laws.specs.LevelWrites.{slot-encode, set-weight}
 use Rattle.laws.specs.Evict.{count-parts, Passed, passed-snoc, Round, both, upper, upper-held, upper-split, one-round}
 use Rattle.buckets.specs.Steps.{Takes, takes-at, Becomes}
 
--- a power of 2 below 2^31
+-- 2^size is below 2^31 only if size is below 31
 small-size : (size : ℕ) → 2 ^ size < 2 ^ 31 → size < 31
 small-size size h = ⊎-elim (λ (e : size < 31). e) (λ (e : 31 ≤ size). absurd (omega (arith, pow-mono {i = 31} {j = size} e))) (lt-or-ge size 31)
 
@@ -94,7 +94,7 @@ module _ {n i x v j : ℕ} {ws : List ℕ} (r : Ready n i x v j ws) where
   level-is : decodeLevel ws ≡ level
   level-is = ap decodeLevel (r .held) ∙ decode-encode n level
 
-  -- the width of the bucket can be halved as often as it is a power of 2
+  -- the width of the bucket is 2^size, so it can be halved size times
   halvable : Halvable n i x (r .first) (r .before) (slot ws j) (r .after) (r .covers .size)
   halvable = record {
     kept = r .kept;
@@ -178,7 +178,7 @@ module _ {n i x v j rest : ℕ} {ws ws′ : List ℕ} {up : ℕ} (c : WasSplit n
       ∙ sym (ap (insert n i x v) (level-is r)
       ∙ upper-split n x (r .first) (r .kept) (r .before) (r .passed) b (r .covers .low) (r .covers .high) (r .after) (few r) i (r .limits .low) v (c .long) (r .covers .light (c .long)) (omega (arith, c .full)))
 
-  -- that was one split, and the rest makes those that v makes after it
+  -- that was one split, and the others are those of the rest on what it left
   pub rest-splits : insertSplits n i x v (decodeLevel ws) ≡ suc (insertSplits n i x rest (decodeLevel ws′))
   rest-splits =
       let is : rest ≡ b .weight + v - 2 ^ suc i = omega (arith, c .full) in

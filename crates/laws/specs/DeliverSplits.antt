@@ -1,9 +1,9 @@
 -- How many buckets a delivery splits: a sum over the levels of the stamp's half, taken level by level, and at most k × last. Rests on the
 -- splits of one level.
-use mathlib.Core.Path.{_≡_, refl, sym, ap, _∙_}
+use mathlib.Core.Path.{_≡_, sym, ap, _∙_}
 use mathlib.Core.List.{List}
 use Prim.Native.Nat.{ℕ, zero, suc, _+_, _-_, _*_, _%_, _^_, _≤_, _<_}
-use native.Mathlib.Nat.{mul-zero, mul-suc, mod-lt}
+use native.Mathlib.Nat.{mul-suc, mod-lt}
 use native.Mathlib.Omega.{arith}
 use lib.ListN.{getD}
 use lib.Pow.{pow-pos}
@@ -31,35 +31,37 @@ module _ (s : Shape) (stamp v : ℕ) (ws : List ℕ) where
   abbrev levelBefore : ℕ → Level
   levelBefore i = decodeLevel (levelPart s parity i ws)
 
-  all-levels : deliverSplits s stamp v (decodeBlock s ws) ≡ insertAllSplits (s .n) 0 (offsetOf s stamp) v (upFrom levelBefore 0 (suc (s .last)))
+  -- how many buckets c levels from level i on split
+  abbrev splitsOf : ℕ → ℕ → ℕ
+  splitsOf i c = insertAllSplits (s .n) i (offsetOf s stamp) v (upFrom levelBefore i c)
+
+  all-levels : deliverSplits s stamp v (decodeBlock s ws) ≡ splitsOf 0 (suc (s .last))
   unfolding deliverSplits decodeHalf
   all-levels = ap (λ (h : Half). insertAllSplits (s .n) 0 (offsetOf s stamp) v (h .levels)) (halfOf-decode s (interval s stamp) ws)
 
-  -- how many buckets the levels from i on split
+  -- how many levels there are from level i on
+  abbrev levelsFrom : ℕ → ℕ
+  levelsFrom i = suc (s .last) - i
+
+  -- how many buckets these split
   abbrev pub splitsFrom : ℕ → ℕ
-  splitsFrom i = insertAllSplits (s .n) i (offsetOf s stamp) v (upFrom levelBefore i (suc (s .last) - i))
+  splitsFrom i = splitsOf i (levelsFrom i)
 
   pub splitsFrom-start : splitsFrom 0 ≡ deliverSplits s stamp v (decodeBlock s ws)
-  splitsFrom-start =
-      let left : suc (s .last) - 0 ≡ suc (s .last) = omega arith in
-      ap (λ (c : ℕ). insertAllSplits (s .n) 0 (offsetOf s stamp) v (upFrom levelBefore 0 c)) left ∙ sym all-levels
+  splitsFrom-start = let all : levelsFrom 0 ≡ suc (s .last) = omega arith in ap (splitsOf 0) all ∙ sym all-levels
 
   pub splitsFrom-step : (i : ℕ) → i ≤ s .last → splitsFrom i ≡ insertSplits (s .n) i (offsetOf s stamp) v (levelBefore i) + splitsFrom (suc i)
-  splitsFrom-step i low =
-      let left : suc (s .last) - i ≡ suc (suc (s .last) - suc i) = omega arith in
-      ap (λ (c : ℕ). insertAllSplits (s .n) i (offsetOf s stamp) v (upFrom levelBefore i c)) left
+  splitsFrom-step i low = let more : levelsFrom i ≡ suc (levelsFrom (suc i)) = omega arith in ap (splitsOf i) more
 
   pub splitsFrom-end : splitsFrom (suc (s .last)) ≡ 0
-  splitsFrom-end =
-      let left : suc (s .last) - suc (s .last) ≡ 0 = omega arith in
-      ap (λ (c : ℕ). insertAllSplits (s .n) (suc (s .last)) (offsetOf s stamp) v (upFrom levelBefore (suc (s .last)) c)) left
+  splitsFrom-end = let none : levelsFrom (suc (s .last)) ≡ 0 = omega arith in ap (splitsOf (suc (s .last))) none
 
-  -- a delivery into a sound block splits at most k buckets on each level from 1
+  -- a delivery into a sound block splits at most k × last buckets: k on each level from 1, none on level 0
   pub deliver-splits : Whole s ws → deliverSplits s stamp v (decodeBlock s ws) ≤ s .k * s .last
   deliver-splits w =
       let x : ℕ = offsetOf s stamp in
       let inside : x < 2 ^ s .k = mod-lt stamp (pow-pos (s .k)) in
       let each : (i : ℕ) → i ≤ s .last → insertSplits (s .n) i x v (levelBefore i) ≤ s .k =
       λ i low. level-splits (s .k) (s .n) i (getD ws (totalStart parity) 0) x v (levelBefore i) inside (whole-level s ws w parity (omega arith) i low) in
-      let upper : insertAllSplits (s .n) 1 x v (upFrom levelBefore 1 (s .last)) ≤ s .k * s .last = most-all (s .n) x v (s .k) levelBefore 1 (s .last) (λ j low high. each j (omega arith)) in
+      let upper : splitsOf 1 (s .last) ≤ s .k * s .last = most-all (s .n) x v (s .k) levelBefore 1 (s .last) (λ j low high. each j (omega arith)) in
       omega (arith, all-levels, single-splits (s .n) x v (levelBefore 0), upper)

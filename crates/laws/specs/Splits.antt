@@ -1,7 +1,7 @@
 -- How many buckets of one level an insertion splits. Below F and at level 0 it is none. From level 1 on it is none while the bucket that
 -- spans the offset has room, and one more than the rest makes once it was full. It is at most as many as the width of that bucket can be
 -- halved, so at most k. Rests on the laws of one round.
-use mathlib.Core.Bool.{Bool, true, false, cond, _&&_}
+use mathlib.Core.Bool.{Bool, true, false, cond}
 use mathlib.Core.Logic.{⊎-elim}
 use mathlib.Core.Path.{_≡_, refl, ap, subst, _∙_}
 use mathlib.Core.List.{List, [], _∷_, _++_, append-assoc}
@@ -99,7 +99,7 @@ module _ (n i x : ℕ) (from : 0 < i) where
         let left : b .weight + suc v - 2 ^ suc i ≡ 0 = omega arith in
         rw left at (upper-split n x f (h .kept) before (h .passed) b (h .low) (h .high) after (h .few) i from (suc v) long (h .light long) (omega arith))
 
-    -- the bucket gets full: that is one split, and the rest makes those that it makes after it
+    -- the bucket gets full: that is one split, and the others are those of the rest on what it left
     pub cut-splits : (v : ℕ) → 1 < b .width → 2 ^ suc i ≤ b .weight + v
         → insertSplits n i x v level ≡ suc (insertSplits n i x (b .weight + v - 2 ^ suc i) (evict n i f (before ++ (halves i b ++ after))))
     cut-splits v long full =

@@ -37,15 +37,17 @@ viewOf lent headSound s clock block = record {
   total = λ _ stamp. halfOf (interval s stamp) (decodeBlock s block) .total;
 }
 
+-- its reply, which is `done` if it is accepted
 abbrev judged : View → Call → Reply → Reply
 judged v call done = let number = firstOf (refusals v call) in cond (eqb number 0) done (refused number)
 
--- a call of this grade, and what it replies where it is accepted
+-- a call whose reply depends on nothing else, and what it replies if it is accepted
 record OfGrade (grade : ℕ) (call : Call) : Type 0 where
   pub done : Shape → ℕ → Block → Reply
   pub told : (ws : List ℕ) → let s = shapeOf ws in
       perform ws call .reply ≡ judged (viewOf (length ws) (soundHead ws) s (clockOf ws) (blockPart s grade ws)) call (done s (clockOf ws) (blockAt ws grade))
 
+-- the reply of an outcome that is settled by its refusals
 settled : {A : Type 0} (rs : List (Bool × ℕ)) (before : A) (done : Outcome A) → settle rs before done .reply ≡ cond (eqb (firstOf rs) 0) (done .reply) (refused (firstOf rs))
 settled rs before done = go (eqb (firstOf rs) 0)
   where

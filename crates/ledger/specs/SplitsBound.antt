@@ -1,4 +1,4 @@
--- A delivery reports at most k × last splits, and every other call none: on words of any content. Rests on the splits of a delivery.
+-- A reply has at most k × last splits, on words of any content. Rests on the splits of a delivery.
 use mathlib.Core.Path.{_≡_}
 use mathlib.Core.List.{List}
 use Prim.Native.Nat.{ℕ, _*_, _≤_}

@@ -65,9 +65,9 @@ unfoldable pub insert : ℕ → ℕ → ℕ → ℕ → Level → Level  -- SPEC
 insert n i x zero l = l
 insert n i x (suc v) l = unit n i x (insert n i x v l)
 
--- SPECIFICATION 4.6 ('halvings' in the customer's paper): how many buckets `add`, `grow`, `unit` and `insert` split, each read off the same level
+-- SPECIFICATION 4.6 ('halvings' in the customer's paper): how many buckets `add`, `grow`, `unit` and `insert` split, each from what these are given
 
-abbrev pub addSplits : ℕ → ℕ → List Bucket → ℕ
+abbrev pub addSplits : ℕ → ℕ → List Bucket → ℕ  -- the bucket that spans offset x gains 1, and counts if it is then full
 addSplits i x [] = 0
 addSplits i x (b ∷ bs) = cond (holds b x) (splitCount i (gained b)) (addSplits i x bs)
 

@@ -1,7 +1,7 @@
 -- SPECIFICATION 13.5: the splits that deliveries report, as one table that the definitions meet. Assumes nothing.
 use mathlib.Core.Path.{_≡_, refl}
-use mathlib.Core.List.{List, [], _∷_, _++_}
-use Prim.Native.Nat.{ℕ, suc}
+use mathlib.Core.List.{List, [], _∷_}
+use Prim.Native.Nat.{suc}
 use lib.ListN.{replicate}
 use Rattle.shape.specs.declared.Shape.{Shape}
 use Rattle.shape.specs.Limits.{splitting, refused, within, shaped}
@@ -14,7 +14,7 @@ use Rattle.model.specs.Sound.{soundHead, soundLevel, soundHalf, soundBlo
 use Rattle.model.specs.Calls.{refusals, bookView, made, clocked, delivered, perform}
 use Rattle.model.specs.Replay.{leftBy}
 use Rattle.model.specs.Claim.{Each}
-use Rattle.model.specs.Table.{answers, Example, Meets, example, d, p₁, p₂, p₃, p₆, p₇}
+use Rattle.model.specs.Table.{answers, Example, Meets, example, d, p₁, p₂, p₃, p₆}
 
 abbrev pub splitsTable : List Example
 splitsTable =
@@ -51,3 +51,8 @@ first-delivery = refl
 pub last-counts : insertAllSplits 2 0 1 9 (upFrom (emptyLevel 3) 0 2) ≡ 2
 unfolding insertSplits insert unit
 last-counts = refl
+
+-- a level can make k splits: 8 decilitres at offset 7 on the empty level 1, with k = 3 and n = 9
+pub most-reached : insertSplits 9 1 7 8 (emptyLevel 3 1) ≡ 3
+unfolding insertSplits insert unit
+most-reached = refl

@@ -10,7 +10,7 @@ use reference::shape::Shape;
 use reference::window::opening;
 
 const SUM: Reply = Ok(Answer::Sum(7));
-const DONE: Reply = Ok(Answer::Done);
+const ACCEPTED: Reply = Ok(Answer::Splits(0));
 
 /// The kinds that there are at a place, without its name.
 fn at(place: &str) -> Vec<String> {
@@ -80,23 +80,23 @@ fn kinds_of_deliveries() {
         };
         kinds(shape, clock, call, reply)
     };
-    assert_eq!(found(16, 9, DONE), ["oldest stamp at clock j 2^k"]);
+    assert_eq!(found(16, 9, ACCEPTED), ["oldest stamp at clock j 2^k"]);
     assert_eq!(
         found(16, 8, Err(9)),
         ["stamp before the oldest at clock j 2^k"]
     );
-    assert_eq!(found(7, 0, DONE), ["oldest stamp at clock 2^k - 1"]);
+    assert_eq!(found(7, 0, ACCEPTED), ["oldest stamp at clock 2^k - 1"]);
     assert_eq!(
         found(8, 0, Err(9)),
         ["stamp before the oldest at clock 2^k"]
     );
-    assert_eq!(found(8, 1, DONE), ["oldest stamp at clock 2^k"]);
+    assert_eq!(found(8, 1, ACCEPTED), ["oldest stamp at clock 2^k"]);
     let others = [
         (16, 9, Err(12)),
         (16, 8, Err(11)),
         (16, 7, Err(9)),
-        (16, 10, DONE),
-        (14, 7, DONE),
+        (16, 10, ACCEPTED),
+        (14, 7, ACCEPTED),
         (14, 6, Err(9)),
     ];
     for (clock, stamp, reply) in others {

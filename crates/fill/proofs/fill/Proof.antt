@@ -1,5 +1,5 @@
 -- Invariant: after each turn one more level has the volume, and the next is as it was. The splits so far and those of the levels that are
--- left are all splits.
+-- left are all splits. Each level makes at most k of them, and k is at most 20, so the sum fits a word.
 use borrow.Author.Needs.{needs}
 use mathlib.Core.Path.{_≡_, refl, ap, _∙_}
 use mathlib.Core.List.{List}

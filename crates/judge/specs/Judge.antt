@@ -21,7 +21,7 @@ use Rattle.model.specs.Reply.{numberOf}
 use Rattle.laws.specs.Proper.{Proper, Whole}
 use Rattle.laws.specs.Refusals.{numberOf-pos, viewOf, opened-accepted}
 use Rattle.model.specs.Claim.{ByCall}
-use Rattle.laws.specs.BookWords.{soundHead-limits, soundHead-clock, length-blockPart}
+use Rattle.laws.specs.BookWords.{head-proper, soundHead-clock, length-blockPart}
 use Rattle.book.specs.declared.head.Opened.the-variants.{Book}
 use Rattle.book.specs.Judgement.{openedNumber, firstRefusal}
 use Rattle.book.specs.Head.{Told}
@@ -122,7 +122,7 @@ module _ (ws : List ℕ) (s : Shape) (clock : ℕ) (o : Open ws s clock) where
   open-clock = rw (o .now) (soundHead-clock ws (open-facts .0))
 
   pub open-proper : Proper s
-  open-proper = rw (o .same) (record { limits = soundHead-limits ws (open-facts .0); last = refl })
+  open-proper = rw (o .same) (head-proper ws (open-facts .0))
 
   -- ---- the refusals that are left
 

@@ -19,7 +19,7 @@ use Rattle.model.specs.Block.{upFrom}
 use Rattle.model.specs.Words.{blockPart, shapeOf, clockOf, join, encodeHead, withBlock}
 use Rattle.model.specs.Sound.{maxClock, soundHead, soundBlock}
 use Rattle.laws.specs.Cond.{and-true}
-use Rattle.laws.specs.Proper.{Whole}
+use Rattle.laws.specs.Proper.{Proper, Whole}
 use Rattle.laws.specs.Parts.{EachFrom, length-join, take-drop-join, withPart-join, join-consecutive, take-upFrom, length-withPart, getD-withPart-below, getD-withPart-above, part-withPart, place-next, places-apart}
 
 -- ---- where the blocks start
@@ -115,8 +115,11 @@ module _ (ws : List ℕ) (sound : soundHead ws ≡ true) where
   head-tests = both sound
 
   -- the shape is within its limits
-  pub soundHead-limits : Limits (getD ws 0 0) (getD ws 1 0) (getD ws 2 0) (getD ws 3 0)
+  soundHead-limits : Limits (getD ws 0 0) (getD ws 1 0) (getD ws 2 0) (getD ws 3 0)
   soundHead-limits = within-limits (getD ws 0 0) (getD ws 1 0) (getD ws 2 0) (getD ws 3 0) (head-tests .0)
+
+  pub head-proper : Proper (shapeOf ws)
+  head-proper = record { limits = soundHead-limits; last = refl }
 
   rest-tests : (leb (clockOf ws) maxClock ≡ true) × ((eqb (getD ws 5 0) 0 && (eqb (getD ws 6 0) 0 && eqb (getD ws 7 0) 0)) ≡ true)
   rest-tests = both (head-tests .1)
@@ -170,7 +173,7 @@ module _ (s : Shape) (grade : ℕ) (h : grade < s .g) (ws : List ℕ) (size : le
 pub whole-block : (ws : List ℕ) (grade : ℕ) → soundHead ws ≡ true → length ws ≡ bookWords (shapeOf ws) → grade < shapeOf ws .g
     → soundBlock (shapeOf ws) (blockPart (shapeOf ws) grade ws) ≡ true → Whole (shapeOf ws) (blockPart (shapeOf ws) grade ws)
 whole-block ws grade head size inside sound = record {
-  proper = record { limits = soundHead-limits ws head; last = refl };
+  proper = head-proper ws head;
   size = length-blockPart (shapeOf ws) grade inside ws size;
   sound = sound;
 }

@@ -1,5 +1,5 @@
 -- How many buckets of one level an insertion splits. Below F and at level 0 it is none. From level 1 on it is none while the bucket that
--- spans the offset has room, and one more than the rest makes once it was full. It is at most as many as the width of that bucket can be
+-- spans the offset has room, and one more than the rest makes once it gets full. It is at most as many as the width of that bucket can be
 -- halved, so at most k. Rests on the laws of one round.
 use mathlib.Core.Bool.{Bool, true, false, cond}
 use mathlib.Core.Logic.{⊎-elim}
@@ -65,9 +65,9 @@ module _ (n i x : ℕ) (from : 0 < i) where
     level = levelOf f (before ++ b ∷ after)
 
     -- what one more decilitre splits after v
-    counted : (v : ℕ) → (1 < b .width → b .weight + v < 2 ^ suc i) → insertSplits n i x (suc v) level ≡ insertSplits n i x v level + splitCount i (gained (raised v b))
+    one-more : (v : ℕ) → (1 < b .width → b .weight + v < 2 ^ suc i) → insertSplits n i x (suc v) level ≡ insertSplits n i x v level + splitCount i (gained (raised v b))
     unfolding insertSplits
-    counted v room = rw (
+    one-more v room = rw (
       upper-held n x f (h .kept) before (h .passed) b (h .low) (h .high) after (h .few) i from v room,
       le-ltb x f (h .kept),
       grow-upper i x (before ++ raised v b ∷ after) from,
@@ -82,7 +82,7 @@ module _ (n i x : ℕ) (from : 0 < i) where
     held-splits (suc v) room =
         let less : 1 < b .width → b .weight + v < 2 ^ suc i = λ long. omega (arith, room long) in
         let before-it = held-splits v less in
-        counted v less
+        one-more v less
         ∙ by-both (λ z. insertSplits n i x v level + z ≡ 0) (eqb (suc (b .weight + v)) (2 ^ suc i)) (ltb 1 (b .width))
         (λ full long. absurd (omega (arith, eqb→eq (suc (b .weight + v)) (2 ^ suc i) full, room (ltb→lt 1 (b .width) long)))) (λ _. omega (arith, before-it))
 
@@ -91,7 +91,7 @@ module _ (n i x : ℕ) (from : 0 < i) where
     unfolding insertSplits
     filling v long full =
         let room : 1 < b .width → b .weight + v < 2 ^ suc i = λ _. omega arith in
-        counted v room ∙ rw (held-splits v room, eq-eqb (suc (b .weight + v)) (2 ^ suc i) full, lt-ltb 1 (b .width) long)
+        one-more v room ∙ rw (held-splits v room, eq-eqb (suc (b .weight + v)) (2 ^ suc i) full, lt-ltb 1 (b .width) long)
 
     filled : (v : ℕ) → 1 < b .width → suc (b .weight + v) ≡ 2 ^ suc i → insert n i x (suc v) level ≡ evict n i f (before ++ (halves i b ++ after))
     unfolding insert

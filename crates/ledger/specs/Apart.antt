@@ -21,14 +21,14 @@ use Rattle.laws.specs.Cond.{eq-or-ne}
 use Rattle.laws.specs.Proper.{Proper}
 use Rattle.laws.specs.BlockWords.{soundBlock-decode}
 use Rattle.laws.specs.BlockSound.{deliver-both, both-size}
-use Rattle.laws.specs.BookWords.{soundHead-limits, head-before, length-withBlock, blockPart-withBlock-other, getD-withBlock-below, getD-withBlock-above}
+use Rattle.laws.specs.BookWords.{head-proper, head-before, length-withBlock, blockPart-withBlock-other, getD-withBlock-below, getD-withBlock-above}
 use Rattle.laws.specs.Refusals.{AcceptedDelivery, accepted-delivery, settle-accepted, settle-refused}
 
 -- ---- what the reply to a call of one grade depends on: the length, the head and the words of the grade's block
 
 -- what such a call is judged by
-abbrev viewOf : ℕ → Bool → Shape → ℕ → List ℕ → View
-viewOf lent headSound s clock block = record {
+abbrev blockView : ℕ → Bool → Shape → ℕ → List ℕ → View
+blockView lent headSound s clock block = record {
   lent = lent;
   headSound = headSound;
   shape = s;
@@ -45,7 +45,7 @@ judged v call done = let number = firstOf (refusals v call) in cond (eqb number 
 record OfGrade (grade : ℕ) (call : Call) : Type 0 where
   pub done : Shape → ℕ → Block → Reply
   pub told : (ws : List ℕ) → let s = shapeOf ws in
-      perform ws call .reply ≡ judged (viewOf (length ws) (soundHead ws) s (clockOf ws) (blockPart s grade ws)) call (done s (clockOf ws) (blockAt ws grade))
+      perform ws call .reply ≡ judged (blockView (length ws) (soundHead ws) s (clockOf ws) (blockPart s grade ws)) call (done s (clockOf ws) (blockAt ws grade))
 
 -- the reply of an outcome that is settled by its refusals
 settled : {A : Type 0} (rs : List (Bool × ℕ)) (before : A) (done : Outcome A) → settle rs before done .reply ≡ cond (eqb (firstOf rs) 0) (done .reply) (refused (firstOf rs))
@@ -55,16 +55,16 @@ settled rs before done = go (eqb (firstOf rs) 0)
     go true = refl
     go false = refl
 
-question : (grade window : ℕ) → OfGrade grade (Query grade window)
+of-question : (grade window : ℕ) → OfGrade grade (Query grade window)
 unfolding perform refusals bookView
-question grade window = record {
+of-question grade window = record {
   done = λ s clock b. accepted (windowSum s clock window b ∷ []);
   told = λ ws. settled (refusals (bookView ws) (Query grade window)) ws (accept ws (Query grade window));
 }
 
-delivery : (grade stamp volume : ℕ) → OfGrade grade (Delivery grade stamp volume)
+of-delivery : (grade stamp volume : ℕ) → OfGrade grade (Delivery grade stamp volume)
 unfolding perform refusals bookView
-delivery grade stamp volume = record {
+of-delivery grade stamp volume = record {
   done = λ s clock b. splitting (deliverSplits s stamp volume b);
   told = λ ws. settled (refusals (bookView ws) (Delivery grade stamp volume)) ws (accept ws (Delivery grade stamp volume));
 }
@@ -89,7 +89,7 @@ module _ (ws vs : List ℕ) (lengths : length vs ≡ length ws) (heads : (i : �
 
   reply-same : (grade : ℕ) (call : Call) → OfGrade grade call → blockPart (shapeOf ws) grade vs ≡ blockPart (shapeOf ws) grade ws → perform vs call .reply ≡ perform ws call .reply
   reply-same grade call of parts =
-      let reply : Shape → List ℕ → Reply = λ s block. judged (viewOf (length ws) (soundHead ws) s (clockOf ws) block) call (of .done s (clockOf ws) (decodeBlock s block)) in
+      let reply : Shape → List ℕ → Reply = λ s block. judged (blockView (length ws) (soundHead ws) s (clockOf ws) block) call (of .done s (clockOf ws) (decodeBlock s block)) in
       let part : blockPart (shapeOf vs) grade vs ≡ blockPart (shapeOf ws) grade ws = ap (λ (s : Shape). blockPart s grade vs) shape-same ∙ parts in
       of .told vs ∙ rw (lengths, head-same, heads 4 (omega arith)) (ap₂ reply shape-same part) ∙ sym (of .told ws)
 
@@ -133,7 +133,7 @@ module _ (ws : List ℕ) (grade stamp volume : ℕ) where
     block-size : length block ≡ blockWords s
     unfolding bookView
     block-size =
-        let proper : Proper s = record { limits = soundHead-limits ws (facts .head); last = refl } in
+        let proper : Proper s = head-proper ws (facts .head) in
         both-size s proper (deliver s stamp volume (blockAt ws grade))
         (deliver-both s proper stamp volume (blockAt ws grade) (soundBlock-decode s (blockPart s grade ws) (facts .sound)) (facts .room))
 
@@ -164,8 +164,8 @@ module _ (ws : List ℕ) (grade stamp volume : ℕ) where
 
   -- no reply to a question of another grade changes, whatever the words and the window are
   pub apart-answers : (other window : ℕ) → other ≢ grade → perform after (Query other window) .reply ≡ perform ws (Query other window) .reply
-  apart-answers other window apart = apart-replies other (Query other window) apart (question other window)
+  apart-answers other window apart = apart-replies other (Query other window) apart (of-question other window)
 
   -- nor does the reply to a delivery of another grade: neither its number nor its splits
   pub apart-splits : (other at v : ℕ) → other ≢ grade → perform after (Delivery other at v) .reply ≡ perform ws (Delivery other at v) .reply
-  apart-splits other at v apart = apart-replies other (Delivery other at v) apart (delivery other at v)
+  apart-splits other at v apart = apart-replies other (Delivery other at v) apart (of-delivery other at v)

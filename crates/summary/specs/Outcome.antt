@@ -1,7 +1,7 @@
 -- What each call answers and leaves, by the number of its first refusal; and the words that make and clock write. Rests on the laws of the
 -- refusals and of the book's parts.
 use mathlib.Core.Bool.{true, false}
-use mathlib.Core.Path.{_≡_, refl, sym, ap, _∙_}
+use mathlib.Core.Path.{_≡_, sym, ap, _∙_}
 use mathlib.Core.List.{List, [], _++_}
 use Prim.Native.Nat.{ℕ, _*_, _≤_, _<_}
 use native.Mathlib.Omega.{arith}
@@ -23,7 +23,7 @@ use Rattle.model.specs.Calls.{blockAt, refusals, bookView, outcomeOf, accept, p
 use Rattle.model.specs.Reply.{numberOf, replyOf}
 use Rattle.laws.specs.Proper.{Proper}
 use Rattle.laws.specs.HalfWrites.{total-decode}
-use Rattle.laws.specs.BookWords.{limits-within, soundHead-limits, length-blockPart}
+use Rattle.laws.specs.BookWords.{limits-within, head-proper, whole-block}
 use Rattle.laws.specs.Parts.{allFrom-elim, upFrom-cong, replicate-upFrom}
 use Rattle.laws.specs.Refusals.{numberOf-pos, settle-accepted, settle-refused, AcceptedClock, accepted-clock, AcceptedDelivery, accepted-delivery, AcceptedQuery, accepted-query}
 use Rattle.book.specs.Judgement.{firstRefusal}
@@ -133,17 +133,15 @@ module _ (ws : List ℕ) (s : Shape) (grade stamp volume : ℕ) (same : s ≡ sh
   pub delivery-inside : InBook s grade ws
   unfolding bookView
   delivery-inside =
-      rw same (record { proper = record { limits = soundHead-limits ws (facts-d .head); last = refl }; size = facts-d .size; inside = facts-d .inside })
+      rw same (record { proper = head-proper ws (facts-d .head); size = facts-d .size; inside = facts-d .inside })
 
   pub delivery-deliverable : Deliverable s stamp volume (blockPart s grade ws)
   unfolding bookView
-  delivery-deliverable =
-      let b = delivery-inside in
-      record {
-        whole = record { proper = b .proper; size = length-blockPart s grade (b .inside) ws (b .size); sound = rw same (facts-d .sound) };
-        some = facts-d .some;
-        room = rw (same, ← total-decode (shapeOf ws) (interval (shapeOf ws) stamp) (blockPart (shapeOf ws) grade ws)) (facts-d .room);
-      }
+  delivery-deliverable = record {
+    whole = rw same (whole-block ws grade (facts-d .head) (facts-d .size) (facts-d .inside) (facts-d .sound));
+    some = facts-d .some;
+    room = rw (same, ← total-decode (shapeOf ws) (interval (shapeOf ws) stamp) (blockPart (shapeOf ws) grade ws)) (facts-d .room);
+  }
 
 -- ---- question
 

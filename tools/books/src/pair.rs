@@ -121,7 +121,7 @@ impl Pair {
 pub fn told(reply: Reply) -> String {
     let line = protocol::answer(reply);
     match reply {
-        Ok(Answer::Splits(splits)) => format!("{line} ({splits} splits)"),
+        Ok(Answer::Splits(splits)) => format!("{line} (splits: {splits})"),
         _ => line,
     }
 }

@@ -66,7 +66,7 @@ fn a_difference_in_splits() {
         word: None,
     };
     let text = "call Delivery { grade: 0, stamp: 1, volume: 9 } on 90 words\n\
-                answers ok (0 splits), expected ok (3 splits)\n\
+                answers ok (splits: 0), expected ok (splits: 3)\n\
                 words equal";
     assert_eq!(difference.to_string(), text);
 }

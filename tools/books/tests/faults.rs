@@ -1,5 +1,6 @@
 //! A usual run finds the faults that docs/SPECIFICATION.md lists in section 14. Those of windows and
-//! lateness are in windows.rs, those of the count of splits in splits.rs.
+//! lateness are in windows.rs, those of the count of splits in splits.rs. What C is told of a refused
+//! delivery's splits does not reach a comparison; the tests of `litres` have it.
 
 mod wrong;
 

@@ -101,7 +101,15 @@ fn another_number_in_its_place() {
 #[test]
 fn other_counts_of_a_level() {
     type Count = fn(Insertion) -> u32;
-    let counts: [(&str, Count); 8] = [
+    let counts: [(&str, Count); 10] = [
+        ("from one on each level", |insertion| insertion.splits() + 1),
+        ("none where its half is evicted", |insertion| {
+            if insertion.offset < insertion.after().first {
+                0
+            } else {
+                insertion.splits()
+            }
+        }),
         ("one for each level", |insertion| insertion.splits().min(1)),
         ("level 1 alone", |insertion| match insertion.index {
             1 => insertion.splits(),

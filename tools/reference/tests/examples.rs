@@ -119,7 +119,7 @@ fn p7_leaves_out_the_bucket_that_the_opening_cuts() {
 #[test]
 fn p8_ignores_the_rest_after_its_bucket_was_evicted() {
     let mut words = example(2);
-    // One split on level 1, since the evicted half is not split again, and one on level 2.
+    // One split on level 1, which evicts the half that spans the stamp, and one on level 2.
     assert_eq!(deliver(&mut words, 0, 0, 5), Ok(2));
     assert_level(&words, 1, 1, &[(1, 1, 2), (2, 2, 2)]);
     // Nine decilitres came in all; level 1 counts four, has evicted two and ignored three.

@@ -117,11 +117,16 @@ fn differences_in_words() {
         ),
         (
             What::Reply {
-                call: Call::Clock { clock: 3 },
+                call: Call::Delivery {
+                    grade: 0,
+                    stamp: 2,
+                    volume: 9,
+                },
                 expected: Ok(Answer::Splits(2)),
                 found: Ok(Answer::Splits(3)),
             },
-            "by separate calls, Clock { clock: 3 }: ok (3 splits), expected ok (2 splits)",
+            "by separate calls, Delivery { grade: 0, stamp: 2, volume: 9 }: ok (splits: 3), \
+             expected ok (splits: 2)",
         ),
     ];
     for (what, text) in texts {

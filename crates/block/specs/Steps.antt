@@ -1,6 +1,6 @@
 -- One level of a block as the code reads it, and the loops over levels, one turn at a time. Assumes nothing.
 use mathlib.Core.Bool.{Bool, true, false, cond, _&&_}
-use mathlib.Core.List.{List, _∷_}
+use mathlib.Core.List.{List}
 use mathlib.Core.Path.{_≡_, ap, _∙_}
 use Prim.Native.Nat.{ℕ, suc, _+_, _-_, _*_, _%_, _^_, _≤_, _<_}
 use native.Mathlib.Nat.{zero-add, sub-zero, mul-le-mul-right}
@@ -13,8 +13,7 @@ use borrow.Author.Tests.{le-leb, lt-leb}
 use Rattle.shape.specs.declared.Shape.{Shape}
 use Rattle.shape.specs.Layout.{totalStart, levelWords, levelStart}
 use Rattle.shape.specs.LayoutLaws.{blockWords-bits}
-use Rattle.model.specs.Level.{Level}
-use Rattle.model.specs.Block.{upFrom, interval, offsetOf, sumFrom, serving, servingIndex, answer}
+use Rattle.model.specs.Block.{interval, offsetOf, sumFrom, serving, servingIndex, answer}
 use Rattle.model.specs.Words.{levelPart, decodeLevel, decodeHalf, decodeBlock}
 use Rattle.model.specs.Sound.{allFrom, soundLevel, soundHalf}
 use Rattle.scan.specs.Steps.{sumFrom-zero}
@@ -23,7 +22,7 @@ use Rattle.laws.specs.InsertSound.{sound-serves}
 use Rattle.laws.specs.BlockSound.{serving-index}
 use Rattle.laws.specs.LevelWords.{length-slots}
 use Rattle.laws.specs.BlockWords.{levelStart-fits}
-use Rattle.laws.specs.HalfWrites.{halfOf-decode, total-decode, whole-total, whole-level}
+use Rattle.laws.specs.HalfWrites.{halfOf-decode, total-decode, levelAt, levelsFrom, levelsFrom-step, whole-total, whole-level}
 use Rattle.laws.specs.Proper.{Sized, Whole}
 
 -- the words of a block have room for level i, in the half of a parity
@@ -36,14 +35,6 @@ pub record LevelIn (s : Shape) (parity i : ℕ) (ws : List ℕ) : Type 0 where
 pub level-within : {s : Shape} {parity i : ℕ} {ws : List ℕ} → LevelIn s parity i ws → (levelStart s parity i + levelWords s ≤ length ws) × (length ws < 2 ^ 29)
 level-within {s} {parity} {i} w = omega (arith, levelStart-fits s parity i (w .half) (w .index), blockWords-bits s (omega arith) (omega arith))
 
--- level i, in the half of a parity
-abbrev pub levelAt : Shape → ℕ → List ℕ → ℕ → Level
-levelAt s parity ws i = decodeLevel (levelPart s parity i ws)
-
--- the levels from level i on
-abbrev pub levelsFrom : Shape → ℕ → List ℕ → ℕ → List Level
-levelsFrom s parity ws i = upFrom (levelAt s parity ws) i (suc (s .last) - i)
-
 -- whether level i is sound
 abbrev pub soundAt : Shape → ℕ → List ℕ → ℕ → Bool
 soundAt s parity ws i = soundLevel s i (getD ws (totalStart parity) 0) (levelPart s parity i ws)
@@ -54,32 +45,22 @@ soundFrom s parity ws i = allFrom (soundAt s parity ws) i (suc (s .last) - i)
 
 module _ (s : Shape) (parity : ℕ) (ws : List ℕ) (i : ℕ) where
   module _ (low : i ≤ s .last) where
-    count : suc (s .last) - i ≡ suc (suc (s .last) - (i + 1))
-    count = omega arith
-
-    levelsFrom-step : levelsFrom s parity ws i ≡ levelAt s parity ws i ∷ levelsFrom s parity ws (i + 1)
-    levelsFrom-step = ap (upFrom (levelAt s parity ws) i) count ∙ rw (← add-one i)
-
     pub soundFrom-step : soundFrom s parity ws i ≡ (soundAt s parity ws i && soundFrom s parity ws (i + 1))
-    soundFrom-step = ap (allFrom (soundAt s parity ws) i) count ∙ rw (← add-one i)
+    soundFrom-step = ap (allFrom (soundAt s parity ws) i) {x = suc (s .last) - i} {y = suc (suc (s .last) - (i + 1))} (omega arith) ∙ rw (← add-one i)
 
     -- a level serves offsets from its F on, and leaves those below to the next level
     pub index-here : (a : ℕ) → levelAt s parity ws i .first ≤ a → servingIndex a (levelsFrom s parity ws i) ≡ 0
-    index-here a h = rw (levelsFrom-step, le-leb (levelAt s parity ws i .first) a h)
+    index-here a h = rw (levelsFrom-step s parity ws i low, le-leb (levelAt s parity ws i .first) a h)
 
     pub index-next : (a : ℕ) → a < levelAt s parity ws i .first
         → servingIndex a (levelsFrom s parity ws i) ≡ suc (servingIndex a (levelsFrom s parity ws (i + 1)))
-    index-next a h = rw (levelsFrom-step, lt-leb (levelAt s parity ws i .first) a h)
+    index-next a h = rw (levelsFrom-step s parity ws i low, lt-leb (levelAt s parity ws i .first) a h, add-one i)
 
   pub soundFrom-none : s .last < i → soundFrom s parity ws i ≡ true
   soundFrom-none h = ap (allFrom (soundAt s parity ws) i) {x = suc (s .last) - i} {y = 0} (omega arith)
 
 module _ (s : Shape) (parity : ℕ) (ws : List ℕ) where
-  -- where the loops start
-  pub levelsFrom-all : levelsFrom s parity ws 0 ≡ decodeHalf s parity ws .levels
-  unfolding decodeHalf
-  levelsFrom-all = rw sub-zero
-
+  -- where the loop starts
   pub soundFrom-all : getD ws (totalStart parity) 0 ≤ 2 ^ s .m → soundFrom s parity ws 0 ≡ soundHalf s parity ws
   unfolding soundHalf
   soundFrom-all h = rw (le-leb (getD ws (totalStart parity) 0) (2 ^ s .m) h, sub-zero)

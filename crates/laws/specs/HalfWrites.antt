@@ -2,16 +2,17 @@
 use mathlib.Core.Bool.{true}
 use mathlib.Core.Logic.{_≢_, ⊎-elim}
 use mathlib.Core.Path.{_≡_, refl, sym, ap, subst, _∙_}
-use mathlib.Core.List.{List}
+use mathlib.Core.List.{List, [], _∷_}
 use Prim.Native.Nat.{ℕ, zero, suc, _+_, _-_, _%_, _^_, _≤_, _<_}
+use native.Mathlib.Nat.{sub-zero}
 use native.Mathlib.Omega.{arith}
 use lib.ListN.{length, getD, set, length-set}
 use lib.Seq.{getD-set-same, getD-set-other}
 use borrow.Author.Tests.{ne-eqb}
 use Rattle.shape.specs.declared.Shape.{Shape}
 use Rattle.shape.specs.Layout.{totalStart, levelWords, blockWords}
-use Rattle.model.specs.Level.{emptyLevel}
-use Rattle.model.specs.Block.{Half, Block, interval, halfOf, withHalf, emptyHalf, advance}
+use Rattle.model.specs.Level.{Level, emptyLevel}
+use Rattle.model.specs.Block.{Half, Block, upFrom, interval, halfOf, withHalf, emptyHalf, advance}
 use Rattle.model.specs.BlockLaws.{empties-same, empties-next, empties-other}
 use Rattle.model.specs.Words.{levelPart, decodeLevel, decodeHalf, decodeBlock, encodeLevel, encodeBlock}
 use Rattle.model.specs.Sound.{soundHalf}
@@ -44,6 +45,25 @@ halfOf-decode s j ws = by-parity j (λ r. halfOf j (decodeBlock s ws) ≡ decode
 pub total-decode : (s : Shape) (j : ℕ) (ws : List ℕ) → halfOf j (decodeBlock s ws) .total ≡ getD ws (j % 2) 0
 unfolding decodeHalf
 total-decode s j ws = ap (λ (h : Half). h .total) (halfOf-decode s j ws)
+
+-- level i, in the half of a parity
+abbrev pub levelAt : Shape → ℕ → List ℕ → ℕ → Level
+levelAt s parity ws i = decodeLevel (levelPart s parity i ws)
+
+-- the levels from level i on
+abbrev pub levelsFrom : Shape → ℕ → List ℕ → ℕ → List Level
+levelsFrom s parity ws i = upFrom (levelAt s parity ws) i (suc (s .last) - i)
+
+module _ (s : Shape) (parity : ℕ) (ws : List ℕ) where
+  pub levelsFrom-all : levelsFrom s parity ws 0 ≡ decodeHalf s parity ws .levels
+  unfolding decodeHalf
+  levelsFrom-all = rw sub-zero
+
+  pub levelsFrom-step : (i : ℕ) → i ≤ s .last → levelsFrom s parity ws i ≡ levelAt s parity ws i ∷ levelsFrom s parity ws (suc i)
+  levelsFrom-step i low = ap (upFrom (levelAt s parity ws) i) {x = suc (s .last) - i} {y = suc (suc (s .last) - suc i)} (omega arith)
+
+  pub levelsFrom-none : levelsFrom s parity ws (suc (s .last)) ≡ []
+  levelsFrom-none = ap (upFrom (levelAt s parity ws) (suc (s .last))) {x = suc (s .last) - suc (s .last)} {y = 0} (omega arith)
 
 -- ---- what a sound block says of one half
 

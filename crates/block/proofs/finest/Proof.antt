@@ -6,7 +6,8 @@ use borrow.Author.Needs.{needs}
 use Rattle.model.specs.Block.{servingIndex}
 use Rattle.model.specs.Words.{decodeLevel, decodeHalf}
 use Rattle.laws.specs.BlockWords.{length-levelPart}
-use Rattle.block.specs.Steps.{index-here, index-next, levelsFrom, levelsFrom-all, last-index}
+use Rattle.laws.specs.HalfWrites.{levelsFrom, levelsFrom-all}
+use Rattle.block.specs.Steps.{index-here, index-next, last-index}
 use Rattle.block.proofs.finest.Statement.{statement}
 use Rattle.block.proofs.finest.Tie as tie
 

@@ -8,7 +8,8 @@ use borrow.Author.Needs.{needs}
 use Rattle.model.specs.Block.{interval, offsetOf, sumFrom, serving}
 use Rattle.model.specs.Words.{decodeHalf}
 use Rattle.laws.specs.BlockWords.{blockWords-halves, length-levelPart}
-use Rattle.block.specs.Steps.{levelAt, index-serves, count-few, total-small, sum-small, answer-decode}
+use Rattle.laws.specs.HalfWrites.{levelAt}
+use Rattle.block.specs.Steps.{index-serves, count-few, total-small, sum-small, answer-decode}
 use Rattle.block.proofs.sum.Statement.{statement}
 use Rattle.block.proofs.sum.Tie as tie
 

@@ -1,4 +1,5 @@
 // The head of a book: its shape and its clock, or why the call is refused. SPECIFICATION 3.2 and 7.1.
+use model::MAX_CLOCK;
 use model::Refusal;
 use shape::Checked;
 use shape::HEAD_LEN;
@@ -9,9 +10,6 @@ ghost use lib.ListN.{length};
 ghost use Rattle.shape.specs.Layout.{headLen};
 ghost use Rattle.book.specs.Judgement.{openedOf, judgement, openedNumber};
 ghost use Rattle.book.specs.Head.{Shaped, isBlank};
-
-// The largest clock.
-pub const MAX_CLOCK: u32 = 2000000000;
 
 // What opening a book, or judging a call, answers: the shape and the clock of the book, or the refusal.
 pub enum Opened {

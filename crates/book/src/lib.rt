@@ -2,7 +2,6 @@
 mod head;
 mod part;
 
-pub use head::MAX_CLOCK;
 pub use head::Opened;
 pub use head::open;
 pub use part::all_sound;

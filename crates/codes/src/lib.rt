@@ -23,6 +23,8 @@ pub fn number(why: Refusal) -> u32
         Refusal::Trace => 13,
         Refusal::Day => 14,
         Refusal::Room => 15,
+        Refusal::Order => 16,
+        Refusal::Output => 17,
     }
 }
 

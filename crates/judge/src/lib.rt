@@ -2,11 +2,11 @@
 mod admit;
 
 use admit::judge_delivery_in;
-use book::MAX_CLOCK;
 use book::Opened;
 use book::all_sound;
 use book::block_sound;
 use book::open;
+use model::MAX_CLOCK;
 use model::Refusal;
 use shape::Shape;
 ghost use mathlib.Core.Path.{_≡_};

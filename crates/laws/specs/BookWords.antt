@@ -41,7 +41,7 @@ module _ (s : Shape) where
   blockStart-fits grade h = blockStart-next grade (s .g) h
 
   -- the head lies within the book
-  head-fits : headLen ≤ bookWords s
+  pub head-fits : headLen ≤ bookWords s
   unfolding bookWords
   head-fits = omega arith
 

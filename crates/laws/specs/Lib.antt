@@ -27,3 +27,4 @@ pub mod Holds
 pub mod InsertSound
 pub mod BlockSound
 pub mod Refusals
+pub mod SoundBook

@@ -13,7 +13,7 @@ use Rattle.shape.specs.Layout.{headLen, bookWords}
 use Rattle.model.specs.declared.Call.{Call}
 use Rattle.model.specs.declared.Call.the-variants.{Make, Clock, Delivery, Query}
 use Rattle.model.specs.declared.Refusal.{Refusal}
-use Rattle.model.specs.declared.Refusal.the-variants.{Shape as NoShape, Length, Grade, Volume, Window, Limit, Head, Ahead, Late, Back, Block, Full, Trace, Day, Room}
+use Rattle.model.specs.declared.Refusal.the-variants.{Shape as NoShape, Length, Grade, Volume, Window, Limit, Head, Ahead, Late, Back, Block, Full, Trace, Day, Room, Order, Output}
 use Rattle.model.specs.Reply.{numberOf}
 use Rattle.model.specs.Block.{late, interval, halfOf}
 use Rattle.model.specs.Words.{blockPart, decodeBlock}
@@ -39,6 +39,8 @@ numberOf-pos Full e = omega arith
 numberOf-pos Trace e = omega arith
 numberOf-pos Day e = omega arith
 numberOf-pos Room e = omega arith
+numberOf-pos Order e = omega arith
+numberOf-pos Output e = omega arith
 
 -- the view of words of this shape and this clock
 abbrev pub viewOf : Shape → ℕ → List ℕ → View
@@ -57,7 +59,7 @@ past true x h = refl
 past false x h = h refl
 
 -- a number other than the first one's comes from further down
-further : (a : Bool) (x : ℕ) {y z : ℕ} → (x ≡ z → ⊥) → cond a x y ≡ z → (a ≡ false) × (y ≡ z)
+pub further : (a : Bool) (x : ℕ) {y z : ℕ} → (x ≡ z → ⊥) → cond a x y ≡ z → (a ≡ false) × (y ≡ z)
 further true x other h = absurd (other h)
 further false x other h = (refl, h)
 

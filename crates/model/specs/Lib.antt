@@ -10,6 +10,9 @@ pub mod Trace
 pub mod Replay
 pub mod Ledger
 pub mod Claim
+pub mod Merge
+pub mod Home
 pub mod Table
 pub mod SplitsTable
 pub mod TraceTable
+pub mod MergeTable

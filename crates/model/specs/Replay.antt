@@ -4,7 +4,7 @@ use mathlib.Core.List.{List, [], _∷_, _++_, map}
 use Prim.Native.Nat.{ℕ, _*_}
 use lib.Dec.{ltb, eqb}
 use lib.ListN.{length, getD, drop}
-use Rattle.shape.specs.Limits.{Reply, refused, accepted}
+use Rattle.shape.specs.Limits.{Reply, numberOnly}
 use Rattle.model.specs.declared.Call.{Call}
 use Rattle.model.specs.Words.{join}
 use Rattle.model.specs.Calls.{firstOf, perform}
@@ -43,7 +43,7 @@ replay ws trace day answers =
     let number = firstOf (replayRefusals trace day (length answers)) in
     let calls = replayCalls trace day (length answers) in
     record {
-      reply = cond (eqb number 0) (accepted []) (refused number);
+      reply = numberOnly number;
       book = leftBy ws calls;
       answers = withAnswers (repliesTo ws calls) answers;
     }

@@ -3,7 +3,7 @@ use mathlib.Core.List.{[], _∷_}
 use Prim.Native.Nat.{ℕ}
 use Rattle.shape.specs.Limits.{Reply, refused, accepted, splitting}
 use Rattle.model.specs.declared.Refusal.{Refusal}
-use Rattle.model.specs.declared.Refusal.the-variants.{Shape, Length, Grade, Volume, Window, Limit, Head, Ahead, Late, Back, Block, Full, Trace, Day, Room}
+use Rattle.model.specs.declared.Refusal.the-variants.{Shape, Length, Grade, Volume, Window, Limit, Head, Ahead, Late, Back, Block, Full, Trace, Day, Room, Order, Output}
 use Rattle.model.specs.declared.Answer.{Answer}
 use Rattle.model.specs.declared.Answer.the-variants.{Done, Splits, Sum, Refused}
 
@@ -23,6 +23,8 @@ numberOf Full = 12
 numberOf Trace = 13
 numberOf Day = 14
 numberOf Room = 15
+numberOf Order = 16
+numberOf Output = 17
 
 unfoldable pub replyOf : Answer → Reply  -- the number, 0 where accepted; the sum of an answered question; the splits of an accepted delivery
 replyOf Done = accepted []

@@ -6,9 +6,9 @@ use lib.Dec.{leb, ltb, eqb}
 use lib.ListN.{length, getD, drop}
 use Rattle.shape.specs.declared.Shape.{Shape}
 use Rattle.shape.specs.Limits.{within}
-use Rattle.shape.specs.Layout.{totalStart, slotStart}
+use Rattle.shape.specs.Layout.{totalStart, slotStart, bookWords}
 use Rattle.model.specs.Level.{Bucket}
-use Rattle.model.specs.Words.{slots, levelPart, clockOf}
+use Rattle.model.specs.Words.{slots, levelPart, blockPart, shapeOf, clockOf}
 
 abbrev pub implies : Bool → Bool → Bool  -- if a holds, so does b
 implies a b = cond a b true
@@ -68,3 +68,8 @@ unfoldable pub soundHead : List ℕ → Bool  -- SPECIFICATION 7.1
 soundHead ws =
     within (getD ws 0 0) (getD ws 1 0) (getD ws 2 0) (getD ws 3 0) && (leb (clockOf ws) maxClock
     && (eqb (getD ws 5 0) 0 && (eqb (getD ws 6 0) 0 && eqb (getD ws 7 0) 0)))
+
+unfoldable pub soundBook : List ℕ → Bool  -- SPECIFICATION 7.7: the head, the number of words and every block
+soundBook ws =
+    let s = shapeOf ws in
+    soundHead ws && (eqb (length ws) (bookWords s) && allFrom (λ grade. soundBlock s (blockPart s grade ws)) 0 (s .g))

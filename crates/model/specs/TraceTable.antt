@@ -41,7 +41,7 @@ MeetsTrace e =
 abbrev made₀ : List ℕ  -- a book of the shape of P1 to P10, just made
 made₀ = leftBy (replicate exampleWords 0) (Make 2 2 4 1 ∷ [])
 
-abbrev clockOnly : ℕ → List ℕ  -- a clock's record
+abbrev pub clockOnly : ℕ → List ℕ  -- a clock's record
 clockOnly clock = 1 ∷ clock ∷ 0 ∷ 0 ∷ []
 
 abbrev p₃Day : List ℕ  -- the calls up to P3 and the question of P4, as records

@@ -1,5 +1,5 @@
-// A call with its numbers, which may be any; why a call, finding a day or a replay is refused (SPECIFICATION 6.2, in the order of the
-// numbers 1 to 15); the answer to a call; and a record of a trace (SPECIFICATION 16.2).
+// A call with its numbers, which may be any; why a call, finding a day, a replay or a merge is refused (SPECIFICATION 6.2, in the order of the
+// numbers 1 to 17); the answer to a call; and a record of a trace (SPECIFICATION 16.2).
 pub enum Call {
     Make { k: u32, n: u32, m: u32, g: u32 },
     Clock { clock: u32 },
@@ -23,10 +23,12 @@ pub enum Refusal {
     Trace, // The trace is unsound: its layout, or a record of any of its days.
     Day, // The trace has no such day.
     Room, // The answers need more words.
+    Order, // A day to merge does not open with a clock, or its clocks fall or pass their limit.
+    Output, // The output is not as long as the two days together.
 }
 
 pub enum Answer {
-    Done, // A make, a clock or a replay.
+    Done, // A make, a clock, a replay or a merge.
     Splits(u32), // A delivery: how many buckets it split.
     Sum(u64), // A question.
     Refused(Refusal),
@@ -39,6 +41,9 @@ pub struct Record {
     pub second: u32,
     pub third: u32,
 }
+
+// The largest clock.
+pub const MAX_CLOCK: u32 = 2000000000;
 
 // The most days of a trace.
 pub const MAX_DAYS: usize = 64;

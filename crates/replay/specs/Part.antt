@@ -9,9 +9,8 @@ use lib.ListN.{length}
 use borrow.Author.Tests.{ne-eqb, lt-ltb, le-ltb}
 use Rattle.shape.specs.Limits.{refused, accepted}
 use Rattle.model.specs.declared.Call.{Call}
-use Rattle.model.specs.Block.{upFrom}
 use Rattle.model.specs.Calls.{firstOf}
-use Rattle.model.specs.Trace.{recordWords, recordAt, recordsOf, callOf, dayCount, dayPart, soundTrace, dayRefusals}
+use Rattle.model.specs.Trace.{recordsOf, callOf, dayCount, dayPart, soundTrace, dayRefusals}
 use Rattle.trace.specs.TraceLaws.{dayRefusal}
 use Rattle.model.specs.Replay.{leftBy, repliesTo, answerWords, withAnswers, replayRefusals, replayCalls, Replayed, replay}
 
@@ -24,14 +23,6 @@ replayPart ws day answers =
     cond (ltb (length answers) (answerWords * length (recordsOf day)))
     (record { reply = refused 15; book = ws; answers = answers })
     (record { reply = accepted []; book = leftBy ws (dayCalls day); answers = withAnswers (repliesTo ws (dayCalls day)) answers })
-
-length-upFrom : {A : Type 0} (f : ℕ → A) (i c : ℕ) → length (upFrom f i c) ≡ c
-length-upFrom f i zero = refl
-length-upFrom f i (suc c) = omega (arith, length-upFrom f (suc i) c)
-
--- how many records the words have
-pub length-records : (day : List ℕ) → length (recordsOf day) ≡ length day / recordWords
-length-records day = length-upFrom (recordAt day) 0 (length day / recordWords)
 
 -- the two cases of a day that was found
 module _ (ws day answers : List ℕ) where

@@ -2,7 +2,7 @@
 use mathlib.Core.Bool.{Bool, cond, _&&_}
 use mathlib.Core.List.{List, [], _∷_}
 use Prim.Native.Nat.{ℕ}
-use lib.Dec.{leb}
+use lib.Dec.{leb, eqb}
 use Rattle.shape.specs.declared.Shape.{Shape}
 use Rattle.shape.specs.declared.Checked.{Checked}
 use Rattle.shape.specs.declared.Checked.the-variants.{Within, Outside}
@@ -24,6 +24,10 @@ accepted values = record { number = 0; values = values; splits = 0 }
 -- accepted, with no values and so many splits
 abbrev pub splitting : ℕ → Reply
 splitting splits = record { number = 0; values = []; splits = splits }
+
+-- a reply that is only a number: accepted under 0, refused under any other
+abbrev pub numberOnly : ℕ → Reply
+numberOnly number = cond (eqb number 0) (accepted []) (refused number)
 
 -- x lies between two limits, both included
 abbrev pub between : ℕ → ℕ → ℕ → Bool

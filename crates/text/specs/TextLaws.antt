@@ -14,7 +14,7 @@ use Rattle.shape.specs.LimitsLaws.{both}
 use Rattle.model.specs.Reply.{numberOf, replyOf}
 use Rattle.model.specs.declared.Answer.the-variants.{Refused}
 use Rattle.model.specs.declared.Refusal.{Refusal}
-use Rattle.model.specs.declared.Refusal.the-variants.{Shape, Length, Grade, Volume, Window, Limit, Head, Ahead, Late, Back, Block, Full, Trace, Day, Room}
+use Rattle.model.specs.declared.Refusal.the-variants.{Shape, Length, Grade, Volume, Window, Limit, Head, Ahead, Late, Back, Block, Full, Trace, Day, Room, Order, Output}
 use Rattle.laws.specs.Cond.{by-lt, and-true}
 use Rattle.grammar.specs.Grammar.{every, isDigit, valueFrom, valueOf, isDecimal}
 use Rattle.text.specs.Text.{digitsOf, decimal, numbered, sumWord, refusedWord, acceptedText, textOf, unreadText, written, stored}
@@ -118,6 +118,8 @@ refused-text Full = refl
 refused-text Trace = refl
 refused-text Day = refl
 refused-text Room = refl
+refused-text Order = refl
+refused-text Output = refl
 
 -- ---- the digits of a number are decimal, and have its value
 

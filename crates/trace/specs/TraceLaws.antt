@@ -17,6 +17,7 @@ use Rattle.model.specs.Sound.{allFrom}
 use Rattle.model.specs.Calls.{firstOf}
 use Rattle.model.specs.Trace.{maxDays, soundDay, dayCount, pairStart, dayStart, dayLength, dayPart, laid, soundTrace, dayRefusals, dayReply, foundDay}
 use Rattle.laws.specs.Cond.{lt-or-ge, and-true, and-false, by-eq}
+use Rattle.laws.specs.Parts.{allFrom-elim}
 use Rattle.days.specs.declared.Pair.{Pair}
 use Rattle.days.specs.Pair.{pairAt}
 use Rattle.trace.specs.declared.Found.{Found}
@@ -127,6 +128,15 @@ sound-facts trace e =
       pairs = laid-within trace (dayCount trace) (pairStart (dayCount trace)) 0 (r .0);
       days = r .0;
     }
+
+-- each of its days is sound
+pub day-sound : (trace : List ℕ) (day : ℕ) → soundTrace trace ≡ true → day < dayCount trace → soundDay (dayPart trace day) ≡ true
+unfolding soundTrace
+day-sound trace day e h =
+    let p : (ltb 0 (length trace) ≡ true) × (_ ≡ true) = both e in
+    let q : (leb (dayCount trace) maxDays ≡ true) × (_ ≡ true) = both (p .1) in
+    let r : (laid trace (pairStart (dayCount trace)) 0 (dayCount trace) ≡ true) × (_ ≡ true) = both (q .1) in
+    allFrom-elim (λ j. soundDay (dayPart trace j)) 0 (dayCount trace) (r .1) day (omega arith) (omega arith)
 
 -- what makes a trace unsound, by the code's tests
 module _ (trace : List ℕ) where

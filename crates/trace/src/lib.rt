@@ -58,7 +58,7 @@ fn are_sound_days(trace: &[u32], days: usize) -> bool
 }
 
 // Whether the trace is sound: its layout, and every record of every day.
-fn is_sound_trace(trace: &[u32]) -> bool
+pub fn is_sound_trace(trace: &[u32]) -> bool
     ensures { λ r. ⌜ r ≡ soundTrace (now (trace .entry)) ⌝ }
 {
     if trace.len() == 0 {

@@ -5,7 +5,7 @@ use mathlib.Core.Path.{_≡_, refl, _∙_}
 use Prim.Native.Nat.{_-_, _*_, _≤_}
 use lib.ListN.{length}
 use Rattle.model.specs.Replay.{answerWords}
-use Rattle.replay.specs.Part.{length-records}
+use Rattle.days.specs.Records.{length-records}
 use Rattle.replay.specs.ReplayLaws.{Played, played-start, played-step, played-end}
 use Rattle.replay.proofs.play_day.Statement.{statement}
 use Rattle.replay.proofs.play_day.Tie as tie

@@ -2,7 +2,8 @@
 use native.Mathlib.Omega.{arith}
 use borrow.Author.Needs.{needs}
 use Rattle.model.specs.Reply.{replyOf}
-use Rattle.replay.specs.Part.{length-records, part-cramped, part-played}
+use Rattle.days.specs.Records.{length-records}
+use Rattle.replay.specs.Part.{part-cramped, part-played}
 use Rattle.replay.proofs.replay_part.Statement.{statement}
 use Rattle.replay.proofs.replay_part.Tie as tie
 

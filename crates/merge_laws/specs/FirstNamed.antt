@@ -1,0 +1,232 @@
+-- The merged day that takes the first-named trace first at equal clock, which is the one that the code writes. Private: a caller is promised
+-- a merged day and no more. Assumes nothing.
+use mathlib.Core.Bool.{Bool, true, false, cond, not, _&&_}
+use mathlib.Core.Path.{_≡_, refl, sym, ap, ap₂, subst, _∙_}
+use mathlib.Core.Logic.{⊎-elim}
+use mathlib.Core.List.{List, [], _∷_, _++_, map}
+use Prim.Native.Nat.{ℕ, zero, suc, _+_, _*_, _/_, _≤_, _<_}
+use native.Mathlib.Omega.{arith}
+use lib.Dec.{leb, eqb}
+use lib.ListN.{length}
+use borrow.Author.Tests.{leb-false, le-leb, lt-ltb, le-ltb, eq-eqb, ne-eqb}
+use Rattle.shape.specs.Limits.{Reply, accepted, refused}
+use Rattle.shape.specs.LimitsLaws.{both}
+use Rattle.model.specs.declared.Record.{Record}
+use Rattle.model.specs.Block.{upFrom}
+use Rattle.model.specs.Words.{join}
+use Rattle.model.specs.Calls.{firstOf, Outcome, outcomeOf, settle}
+use Rattle.model.specs.Trace.{recordWords, recordAt, recordsOf, dayCount, dayPart, soundTrace}
+use Rattle.model.specs.Merge.{Timed, timed, firsts, seconds, climbs, unmarked, Merged, mergeable, mergeRefusals, Merges}
+use Rattle.laws.specs.Cond.{and-true, eq-or-ne}
+use Rattle.laws.specs.Refusals.{settle-accepted, settle-refused}
+use Rattle.merge_laws.specs.AcceptedMerge.{accepted-merge}
+use Rattle.merge_laws.specs.MergedDay.{heldOf, mergeable-climbs}
+
+-- ---- the definition
+
+abbrev pub mergeBefore : Timed → (List Timed → List (Bool × Timed)) → List Timed → List (Bool × Timed)  -- x and then the rest of its day; of the second day's records those of an earlier clock stand before x
+mergeBefore x rest [] = (true, x) ∷ rest []
+mergeBefore x rest (y ∷ ys) = cond (leb (x .clock) (y .clock)) ((true, x) ∷ rest (y ∷ ys)) ((false, y) ∷ mergeBefore x rest ys)
+
+abbrev pub mergeTimed : List Timed → List Timed → List (Bool × Timed)
+mergeTimed [] ys = map (λ y. (false, y)) ys
+mergeTimed (x ∷ xs) ys = mergeBefore x (mergeTimed xs) ys
+
+abbrev pub recordPart : Record → List ℕ  -- the words of a record
+recordPart r = r .kind ∷ r .first ∷ r .second ∷ r .third ∷ []
+
+abbrev pub mergePart : List Timed → List Timed → List ℕ  -- the words of what is left of two days
+mergePart xs ys = join (map recordPart (heldOf (unmarked (mergeTimed xs ys))))
+
+unfoldable pub mergedWords : List ℕ → List ℕ → List ℕ  -- the words of two days merged
+mergedWords a b = mergePart (timed 0 (recordsOf a)) (timed 0 (recordsOf b))
+
+unfoldable pub mergeDays : List ℕ → List ℕ → List ℕ → Outcome (List ℕ)  -- a merge of two days that are found: the part that follows the refusals of finding them
+mergeDays xs ys before =
+    settle
+    ((not (mergeable (recordsOf xs)), 16) ∷ (not (mergeable (recordsOf ys)), 16) ∷ (not (eqb (length before) (length xs + length ys)), 17) ∷ [])
+    before
+    (outcomeOf (accepted []) (mergedWords xs ys))
+
+unfoldable pub mergeFirst : List ℕ → ℕ → List ℕ → ℕ → List ℕ → Outcome (List ℕ)  -- a merge: its reply, and the words of the output afterwards
+mergeFirst a i b j before =
+    settle (mergeRefusals a i b j (length before)) before (outcomeOf (accepted []) (mergedWords (dayPart a i) (dayPart b j)))
+
+-- ---- by the code's tests
+
+module _ (a : List ℕ) (i : ℕ) (b : List ℕ) (j : ℕ) (before : List ℕ) where
+  pub first-unsound : soundTrace a ≡ false → outcomeOf (refused 13) before ≡ mergeFirst a i b j before
+  unfolding mergeFirst
+  first-unsound h = rw h
+
+  pub second-unsound : soundTrace a ≡ true → soundTrace b ≡ false → outcomeOf (refused 13) before ≡ mergeFirst a i b j before
+  unfolding mergeFirst
+  second-unsound h g = rw (h, g)
+
+  pub first-missing : soundTrace a ≡ true → soundTrace b ≡ true → dayCount a ≤ i → outcomeOf (refused 14) before ≡ mergeFirst a i b j before
+  unfolding mergeFirst
+  first-missing h g none = rw (h, g, le-ltb i (dayCount a) none)
+
+  pub second-missing : soundTrace a ≡ true → soundTrace b ≡ true → i < dayCount a → dayCount b ≤ j → outcomeOf (refused 14) before ≡ mergeFirst a i b j before
+  unfolding mergeFirst
+  second-missing h g there none = rw (h, g, lt-ltb i (dayCount a) there, le-ltb j (dayCount b) none)
+
+  pub both-found : soundTrace a ≡ true → soundTrace b ≡ true → i < dayCount a → j < dayCount b → mergeDays (dayPart a i) (dayPart b j) before ≡ mergeFirst a i b j before
+  unfolding mergeFirst mergeDays
+  both-found h g there here = rw (h, g, lt-ltb i (dayCount a) there, lt-ltb j (dayCount b) here)
+
+module _ (xs ys before : List ℕ) where
+  pub first-order : mergeable (recordsOf xs) ≡ false → outcomeOf (refused 16) before ≡ mergeDays xs ys before
+  unfolding mergeDays
+  first-order h = rw h
+
+  pub second-order : mergeable (recordsOf xs) ≡ true → mergeable (recordsOf ys) ≡ false → outcomeOf (refused 16) before ≡ mergeDays xs ys before
+  unfolding mergeDays
+  second-order h g = rw (h, g)
+
+  pub other-length : mergeable (recordsOf xs) ≡ true → mergeable (recordsOf ys) ≡ true → (length before ≡ length xs + length ys → ⊥)
+      → outcomeOf (refused 17) before ≡ mergeDays xs ys before
+  unfolding mergeDays
+  other-length h g apart = rw (h, g, ne-eqb (length before) (length xs + length ys) apart)
+
+  pub days-merged : mergeable (recordsOf xs) ≡ true → mergeable (recordsOf ys) ≡ true → length before ≡ length xs + length ys
+      → outcomeOf (accepted []) (mergedWords xs ys) ≡ mergeDays xs ys before
+  unfolding mergeDays
+  days-merged h g size = rw (h, g, eq-eqb (length before) (length xs + length ys) size)
+
+-- ---- both days are there, each in its order
+
+firsts-second : (ys : List Timed) → firsts (map (λ y. (false, y)) ys) ≡ []
+firsts-second [] = refl
+firsts-second (y ∷ ys) = firsts-second ys
+
+seconds-second : (ys : List Timed) → seconds (map (λ y. (false, y)) ys) ≡ ys
+seconds-second [] = refl
+seconds-second (y ∷ ys) = ap (λ (z : List Timed). y ∷ z) (seconds-second ys)
+
+abbrev Parts : List Timed → (List Timed → List (Bool × Timed)) → Type 0
+Parts xs merge = (ys : List Timed) → (firsts (merge ys) ≡ xs) × (seconds (merge ys) ≡ ys)
+
+before-parts : (x : Timed) (xs : List Timed) (rest : List Timed → List (Bool × Timed)) → Parts xs rest → Parts (x ∷ xs) (mergeBefore x rest)
+before-parts x xs rest parts [] = let r = parts [] in (ap (λ (z : List Timed). x ∷ z) (r .0), r .1)
+before-parts x xs rest parts (y ∷ ys) = go (leb (x .clock) (y .clock)) (parts (y ∷ ys)) (before-parts x xs rest parts ys)
+  where
+    go : (t : Bool) → (firsts (rest (y ∷ ys)) ≡ xs) × (seconds (rest (y ∷ ys)) ≡ y ∷ ys) → (firsts (mergeBefore x rest ys) ≡ x ∷ xs) × (seconds (mergeBefore x rest ys) ≡ ys)
+        → let m = cond t ((true, x) ∷ rest (y ∷ ys)) ((false, y) ∷ mergeBefore x rest ys) in (firsts m ≡ x ∷ xs) × (seconds m ≡ y ∷ ys)
+    go true r q = (ap (λ (z : List Timed). x ∷ z) (r .0), r .1)
+    go false r q = (q .0, ap (λ (z : List Timed). y ∷ z) (q .1))
+
+merge-parts : (xs : List Timed) → Parts xs (mergeTimed xs)
+merge-parts [] ys = (firsts-second ys, seconds-second ys)
+merge-parts (x ∷ xs) ys = before-parts x xs (mergeTimed xs) (merge-parts xs) ys
+
+-- ---- clocks never fall
+
+unmarked-second : (ys : List Timed) → unmarked (map (λ y. (false, y)) ys) ≡ ys
+unmarked-second [] = refl
+unmarked-second (y ∷ ys) = ap (λ (z : List Timed). y ∷ z) (unmarked-second ys)
+
+abbrev Climbs : List Timed → (List Timed → List (Bool × Timed)) → Type 0
+Climbs xs merge = (c : ℕ) (ys : List Timed) → climbs c xs ≡ true → climbs c ys ≡ true → climbs c (unmarked (merge ys)) ≡ true
+
+before-climbs : (x : Timed) (xs : List Timed) (rest : List Timed → List (Bool × Timed)) → Climbs xs rest → Climbs (x ∷ xs) (mergeBefore x rest)
+before-climbs x xs rest climb c [] h q = let p = both {a = leb c (x .clock)} h in and-true (p .0) (climb (x .clock) [] (p .1) refl)
+before-climbs x xs rest climb c (y ∷ ys) h q =
+    go (leb (x .clock) (y .clock)) refl (before-climbs x xs rest climb (y .clock) ys)
+  where
+    go : (t : Bool) → leb (x .clock) (y .clock) ≡ t
+        → (climbs (y .clock) (x ∷ xs) ≡ true → climbs (y .clock) ys ≡ true → climbs (y .clock) (unmarked (mergeBefore x rest ys)) ≡ true)
+        → climbs c (unmarked (cond t ((true, x) ∷ rest (y ∷ ys)) ((false, y) ∷ mergeBefore x rest ys))) ≡ true
+    go true e again =
+        let p = both {a = leb c (x .clock)} {b = climbs (x .clock) xs} h in
+        let r = both {a = leb c (y .clock)} {b = climbs (y .clock) ys} q in
+        and-true (p .0) (climb (x .clock) (y ∷ ys) (p .1) (and-true e (r .1)))
+    go false e again =
+        let p = both {a = leb c (x .clock)} {b = climbs (x .clock) xs} h in
+        let r = both {a = leb c (y .clock)} {b = climbs (y .clock) ys} q in
+        let under = leb-false (x .clock) (y .clock) e in
+        and-true (r .0) (again (and-true (le-leb (y .clock) (x .clock) (omega arith)) (p .1)) (r .1))
+
+merge-climbs : (xs : List Timed) → Climbs xs (mergeTimed xs)
+merge-climbs [] c ys h q = rw (unmarked-second ys) q
+merge-climbs (x ∷ xs) c ys h q = before-climbs x xs (mergeTimed xs) (merge-climbs xs) c ys h q
+
+-- so it is a merged day
+pub merge-merged : (xs ys : List Record) → mergeable xs ≡ true → mergeable ys ≡ true
+    → Merged xs ys (heldOf (unmarked (mergeTimed (timed 0 xs) (timed 0 ys))))
+merge-merged xs ys h q =
+    let parts = merge-parts (timed 0 xs) (timed 0 ys) in
+    record {
+      marked = mergeTimed (timed 0 xs) (timed 0 ys);
+      first = parts .0;
+      second = parts .1;
+      rises = merge-climbs (timed 0 xs) 0 (timed 0 ys) (mergeable-climbs xs h) (mergeable-climbs ys q);
+      all = refl;
+    }
+
+-- ---- as words
+
+upFrom-shift : {A : Type 0} (f g : ℕ → A) → ((j : ℕ) → f (suc j) ≡ g j) → (i n : ℕ) → upFrom f (suc i) n ≡ upFrom g i n
+upFrom-shift f g same i zero = refl
+upFrom-shift f g same i (suc n) = ap₂ (λ x l. x ∷ l) (same i) (upFrom-shift f g same (suc i) n)
+
+-- the records of the words of records
+records-part : (rs : List Record) → recordsOf (join (map recordPart rs)) ≡ rs
+records-part [] = refl
+records-part (r ∷ rs) =
+    let ws : List ℕ = join (map recordPart rs) in
+    let count : length (recordPart r ++ ws) / recordWords ≡ suc (length ws / recordWords) = omega arith in
+    ap (upFrom (recordAt (recordPart r ++ ws)) 0) count
+    ∙ ap (λ (l : List Record). r ∷ l) (upFrom-shift (recordAt (recordPart r ++ ws)) (recordAt ws) (shifted ws) 0 (length ws / recordWords) ∙ records-part rs)
+  where
+    shifted : (ws : List ℕ) (j : ℕ) → recordAt (recordPart r ++ ws) (suc j) ≡ recordAt ws j
+    shifted ws j =
+        let at : recordWords * suc j ≡ suc (suc (suc (suc (recordWords * j)))) = omega arith in
+        let one : recordWords * suc j + 1 ≡ suc (suc (suc (suc (recordWords * j + 1)))) = omega arith in
+        let two : recordWords * suc j + 2 ≡ suc (suc (suc (suc (recordWords * j + 2)))) = omega arith in
+        let three : recordWords * suc j + 3 ≡ suc (suc (suc (suc (recordWords * j + 3)))) = omega arith in
+        rw (one, two, three, at)
+
+-- a merge that takes the first-named trace first is one that a caller is promised
+module _ (a : List ℕ) (i : ℕ) (b : List ℕ) (j : ℕ) (before : List ℕ) (reply : Reply) (after : List ℕ) (is : outcomeOf reply after ≡ mergeFirst a i b j before) (size : length after ≡ length before) where
+  abbrev number : ℕ
+  number = firstOf (mergeRefusals a i b j (length before))
+
+  abbrev xs : List ℕ
+  xs = dayPart a i
+
+  abbrev ys : List ℕ
+  ys = dayPart b j
+
+  abbrev done : Outcome (List ℕ)
+  done = outcomeOf (accepted []) (mergedWords xs ys)
+
+  written-merged : mergeable (recordsOf xs) ≡ true → mergeable (recordsOf ys) ≡ true → Merged (recordsOf xs) (recordsOf ys) (recordsOf (mergedWords xs ys))
+  unfolding mergedWords
+  written-merged h q = rw (records-part (heldOf (unmarked (mergeTimed (timed 0 (recordsOf xs)) (timed 0 (recordsOf ys)))))) (merge-merged (recordsOf xs) (recordsOf ys) h q)
+
+  accepted-case : number ≡ 0 → Merges a i b j before reply after
+  unfolding mergeFirst
+  accepted-case h =
+      let e : outcomeOf reply after ≡ done = is ∙ settle-accepted (mergeRefusals a i b j (length before)) before done h in
+      let facts = accepted-merge a i b j (length before) h in
+      record {
+        answer = ap (λ o. o .reply) e ∙ rw (eq-eqb number 0 h);
+        size = size;
+        refused = λ some. absurd (some (ap (λ o. o .reply .number) e));
+        merged = λ _. subst (λ (z : List ℕ). Merged (recordsOf xs) (recordsOf ys) (recordsOf z)) (sym (ap (λ o. o .left) e)) (written-merged (facts .firstOrder) (facts .secondOrder));
+      }
+
+  refused-case : (number ≡ 0 → ⊥) → Merges a i b j before reply after
+  unfolding mergeFirst
+  refused-case h =
+      let e : outcomeOf reply after ≡ outcomeOf (refused number) before = is ∙ settle-refused (mergeRefusals a i b j (length before)) before done h in
+      record {
+        answer = ap (λ o. o .reply) e ∙ rw (ne-eqb number 0 h);
+        size = size;
+        refused = λ _. ap (λ o. o .left) e;
+        merged = λ none. absurd (h (sym (ap (λ o. o .reply .number) e) ∙ none));
+      }
+
+  pub first-merges : Merges a i b j before reply after
+  first-merges = ⊎-elim accepted-case refused-case (eq-or-ne number 0)

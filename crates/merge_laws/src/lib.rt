@@ -1,0 +1,1 @@
+// Specs only: what holds of every merged day, and the merged day that takes the first-named trace first.

@@ -1,15 +1,18 @@
 -- The records of a day as a loop goes through them, and words written one after another. Assumes nothing.
-use mathlib.Core.Path.{_≡_, refl, sym, ap, _∙_}
+use mathlib.Core.Bool.{true}
+use mathlib.Core.Path.{_≡_, refl, ap, _∙_}
 use mathlib.Core.List.{List, [], _∷_, _++_, append-assoc}
-use Prim.Native.Nat.{ℕ, zero, suc, _+_, _-_, _*_, _/_, _≤_, _<_}
+use Prim.Native.Nat.{ℕ, zero, suc, _+_, _-_, _*_, _/_, _%_, _≤_, _<_}
 use native.Mathlib.Nat.{sub-zero}
 use native.Mathlib.Numerals.{add-one}
 use native.Mathlib.Omega.{arith}
 use lib.ListN.{length, take, set, length-set}
 use lib.Seq.{take-suc-set}
+use borrow.Author.Tests.{eqb-true}
+use Rattle.shape.specs.LimitsLaws.{both}
 use Rattle.model.specs.declared.Record.{Record}
 use Rattle.model.specs.Block.{upFrom}
-use Rattle.model.specs.Trace.{recordWords, recordAt, recordsOf}
+use Rattle.model.specs.Trace.{recordWords, recordAt, recordsOf, soundDay}
 
 -- ---- the records from record i on
 
@@ -59,3 +62,8 @@ take-four ws to w x y z room =
     let four : to + 2 + 2 ≡ to + 4 = omega arith in
     let three : to + 2 + 1 ≡ to + 3 = omega arith in
     rw (four, three) at (take-two l (to + 2) y z (omega arith)) ∙ rw (take-two ws to w x (omega arith)) (append-assoc (take to ws) (w ∷ x ∷ []) (y ∷ z ∷ []))
+
+-- a sound day is whole records
+pub day-whole : (day : List ℕ) → soundDay day ≡ true → length day % recordWords ≡ 0
+unfolding soundDay
+day-whole day h = eqb-true (length day % recordWords) 0 (both h .0)

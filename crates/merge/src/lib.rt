@@ -18,7 +18,7 @@ ghost use Prim.Native.Nat.{_+_, _*_, _%_, _≤_, _<_};
 ghost use lib.ListN.{length, take};
 ghost use Rattle.model.specs.Calls.{outcomeOf};
 ghost use Rattle.model.specs.Reply.{replyOf};
-ghost use Rattle.model.specs.Trace.{recordWords, soundDay};
+ghost use Rattle.model.specs.Trace.{recordWords, soundDay, dayCount, dayPart, soundTrace};
 ghost use Rattle.model.specs.Merge.{Merges};
 ghost use Rattle.days.specs.Records.{recordCount};
 ghost use Rattle.merge_laws.specs.FirstNamed.{recordPart, mergedWords, mergeDays, mergeFirst};
@@ -137,6 +137,14 @@ fn merge_days(a: &[u32], b: &[u32], out: &mut [u32]) -> Answer
     Answer::Done
 }
 
+// The words of a day of a sound trace.
+fn day_part(trace: &[u32], day: u32) -> &[u32]
+    requires { ⌜ (soundTrace (now trace) ≡ true) × (day < dayCount (now trace)) ⌝ }
+    ensures { λ r. ⌜ now r ≡ dayPart (now (trace .entry)) day ⌝ }
+{
+    day_at(trace, pair_at(trace, wide(day)))
+}
+
 // The merge that takes the first-named trace first.
 fn merge_first(first: &[u32], i: u32, second: &[u32], j: u32, out: &mut [u32]) -> Answer
     ensures { λ r. ⌜ outcomeOf (replyOf r) (now (out .exit)) ≡ mergeFirst (now (first .entry)) i (now (second .entry)) j (now (out .entry)) ⌝ }
@@ -153,11 +161,7 @@ fn merge_first(first: &[u32], i: u32, second: &[u32], j: u32, out: &mut [u32]) -
     if second[0] <= j {
         return Answer::Refused(Refusal::Day);
     }
-    merge_days(
-        day_at(first, pair_at(first, wide(i))),
-        day_at(second, pair_at(second, wide(j))),
-        out,
-    )
+    merge_days(day_part(first, i), day_part(second, j), out)
 }
 
 // Writes a merged day of a day of either trace. In which order records of equal clock stand is undecided.

@@ -9,7 +9,7 @@ use native.Mathlib.Omega.{arith}
 use lib.Dec.{eqb}
 use lib.ListN.{length}
 use lib.Seq.{take-all}
-use borrow.Author.Tests.{eqb-true, eq-eqb, lt-ltb, le-ltb}
+use borrow.Author.Tests.{eq-eqb, lt-ltb, le-ltb}
 use Rattle.shape.specs.Limits.{Reply, numberOnly}
 use Rattle.shape.specs.LimitsLaws.{both}
 use Rattle.model.specs.declared.Record.{Record}
@@ -23,6 +23,7 @@ use Rattle.model.specs.Merge.{mergeRefusals, Merges}
 use Rattle.model.specs.Home.{onlyDay, MeetsHome, HomeClocks}
 use Rattle.laws.specs.Cond.{and-true, by-eq}
 use Rattle.laws.specs.SoundBook.{book-facts}
+use Rattle.days.specs.Records.{day-whole}
 use Rattle.merge_laws.specs.AcceptedMerge.{accepted-merge}
 use Rattle.merge_laws.specs.MergedDay.{merged-home, merged-mergeable, merged-each}
 use Rattle.merge_laws.specs.Meets.{mergeable-meets}
@@ -38,11 +39,9 @@ module _ (p : Record → Bool) (f : ℕ → Record) where
   from-each i zero h = refl
   from-each i (suc c) h = and-true (h .0) (from-each (suc i) c (h .1))
 
-day-records : (day : List ℕ) → soundDay day ≡ true → (length day % recordWords ≡ 0) × Each (λ r. soundRecord r ≡ true) (recordsOf day)
+day-records : (day : List ℕ) → soundDay day ≡ true → Each (λ r. soundRecord r ≡ true) (recordsOf day)
 unfolding soundDay
-day-records day h =
-    let q = both {a = eqb (length day % recordWords) 0} h in
-    (eqb-true (length day % recordWords) 0 (q .0), each-from soundRecord (recordAt day) 0 (length day / recordWords) (q .1))
+day-records day h = each-from soundRecord (recordAt day) 0 (length day / recordWords) (both {a = eqb (length day % recordWords) 0} h .1)
 
 records-day : (day : List ℕ) → length day % recordWords ≡ 0 → Each (λ r. soundRecord r ≡ true) (recordsOf day) → soundDay day ≡ true
 unfolding soundDay
@@ -90,11 +89,9 @@ home-clocks a i b j before reply after merge done ws sound notPast answers room 
     let number : firstOf (mergeRefusals a i b j (length before)) ≡ 0 =
     sym (number-of (firstOf (mergeRefusals a i b j (length before)))) ∙ sym (ap (λ (r : Reply). r .number) (merge .answer)) ∙ done in
     let facts = accepted-merge a i b j (length before) number in
-    let first = day-records (dayPart a i) (facts .first) in
-    let second = day-records (dayPart b j) (facts .second) in
     let whole : length after % recordWords ≡ 0 =
-    ap (λ (n : ℕ). n % recordWords) (merge .size ∙ facts .size) ∙ whole-sum (length (dayPart a i)) (length (dayPart b j)) (first .0) (second .0) in
-    let trace = only-sound after (records-day after whole (merged-each xs ys out m (λ r. soundRecord r ≡ true) (first .1) (second .1))) in
+    ap (λ (n : ℕ). n % recordWords) (merge .size ∙ facts .size) ∙ whole-sum (length (dayPart a i)) (length (dayPart b j)) (day-whole (dayPart a i) (facts .first)) (day-whole (dayPart b j) (facts .second)) in
+    let trace = only-sound after (records-day after whole (merged-each xs ys out m (λ r. soundRecord r ≡ true) (day-records (dayPart a i) (facts .first)) (day-records (dayPart b j) (facts .second)))) in
     let meets = mergeable-meets out (merged-mergeable xs ys out m (facts .firstOrder) (facts .secondOrder)) ws (book-facts ws sound) notPast in
     record {
       sound = trace;

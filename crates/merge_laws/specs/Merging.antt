@@ -8,7 +8,7 @@ use Prim.Native.Nat.{ℕ, zero, suc, _+_, _*_, _/_, _%_, _≤_, _<_}
 use native.Mathlib.Nat.{zero-add}
 use native.Mathlib.Omega.{arith}
 use lib.Dec.{leb}
-use lib.ListN.{length, take}
+use lib.ListN.{length, take, set}
 use lib.Seq.{take-all}
 use borrow.Author.Tests.{le-leb, lt-leb}
 use Rattle.model.specs.declared.Record.{Record}
@@ -16,9 +16,16 @@ use Rattle.model.specs.Words.{join}
 use Rattle.model.specs.Trace.{recordWords, recordAt}
 use Rattle.model.specs.Merge.{Timed, clockAfter, timed, unmarked}
 use Rattle.laws.specs.Cond.{lt-or-ge}
-use Rattle.days.specs.Records.{recordCount, recordsFrom, recordsFrom-start, recordsFrom-step, recordsFrom-end}
+use Rattle.days.specs.Records.{recordCount, recordsFrom, recordsFrom-start, recordsFrom-step, recordsFrom-end, take-four}
 use Rattle.merge_laws.specs.MergedDay.{heldOf}
 use Rattle.merge_laws.specs.FirstNamed.{mergeTimed, recordPart, mergePart, mergedWords}
+
+-- a record written after so many others
+pub take-record : (ws : List ℕ) (to : ℕ) (r : Record) → recordWords * (to + 1) ≤ length ws → let at = recordWords * to in
+    take (recordWords * (to + 1)) (set (set (set (set ws at (r .kind)) (at + 1) (r .first)) (at + 2) (r .second)) (at + 3) (r .third)) ≡ take at ws ++ recordPart r
+take-record ws to r room =
+    let next : recordWords * (to + 1) ≡ recordWords * to + 4 = omega arith in
+    rw next (take-four ws (recordWords * to) (r .kind) (r .first) (r .second) (r .third) (omega arith))
 
 -- what is left of a day of which i records are taken, the last of them at clock c
 abbrev pub leftOf : List ℕ → ℕ → ℕ → List Timed

@@ -7,12 +7,13 @@ use trace::Found;
 use words::wide;
 ghost use mathlib.Core.Path.{_≡_};
 ghost use mathlib.Core.Bool.{cond};
-ghost use Rattle.shape.specs.Limits.{within, shaped};
+ghost use Rattle.shape.specs.Limits.{within, shaped, numberOnly};
 ghost use Rattle.shape.specs.Layout.{bookWords};
 ghost use Rattle.model.specs.declared.Call.the-variants as Call;
 ghost use Rattle.model.specs.Calls.{perform};
 ghost use Rattle.model.specs.Trace.{dayReply};
 ghost use Rattle.model.specs.Replay.{replay};
+ghost use Rattle.model.specs.Merge.{Merges};
 ghost use Rattle.capi.specs.Told.{codeOf, deliveryOf, sumOf, placeOf, replayOf};
 
 // How many words a book of this shape needs; 0 if the shape is outside its limits.
@@ -102,4 +103,18 @@ pub extern "C" fn litres_replay(
     ensures { λ r. ⌜ (r, now (book .exit), now (answers .exit)) ≡ replayOf (replay (now (book .entry)) (now (trace .entry)) day (now (answers .entry))) ⌝ }
 {
     codes::answer_number(replay::replay(book, trace, day, answers))
+}
+
+// `out` is written only if the merge is accepted.
+#[no_mangle]
+pub extern "C" fn litres_merge(
+    first: &[u32],
+    i: u32,
+    second: &[u32],
+    j: u32,
+    out: &mut [u32],
+) -> u32
+    ensures { λ r. ⌜ Merges (now (first .entry)) i (now (second .entry)) j (now (out .entry)) (numberOnly r) (now (out .exit)) ⌝ }
+{
+    codes::answer_number(merge::merge(first, i, second, j, out))
 }

@@ -1,15 +1,17 @@
--- What an accepted merge tells of the two days and of the output. Rests on the days of a sound trace being sound.
+-- What an accepted merge tells of the two days and of the output, and the number of a merge's reply. Rests on the days of a sound trace being sound.
 use mathlib.Core.Bool.{true, not}
-use mathlib.Core.Path.{_≡_}
+use mathlib.Core.Path.{_≡_, refl, sym, ap, _∙_}
 use mathlib.Core.List.{List}
 use Prim.Native.Nat.{ℕ, _+_}
 use native.Mathlib.Omega.{arith}
 use lib.Dec.{ltb, eqb}
 use lib.ListN.{length}
 use borrow.Author.Tests.{not-false, ltb-true, eqb-true}
+use Rattle.shape.specs.Limits.{Reply, numberOnly}
 use Rattle.model.specs.Calls.{firstOf}
 use Rattle.model.specs.Trace.{recordsOf, soundDay, dayCount, dayPart, soundTrace}
-use Rattle.model.specs.Merge.{mergeable, mergeRefusals}
+use Rattle.model.specs.Merge.{mergeable, mergeRefusals, Merges}
+use Rattle.laws.specs.Cond.{by-eq}
 use Rattle.laws.specs.Refusals.{further}
 use Rattle.trace.specs.TraceLaws.{day-sound}
 
@@ -38,3 +40,13 @@ accepted-merge a i b j room h =
       secondOrder = not-false _ (orderB .0);
       size = eqb-true room (length xs + length ys) (not-false _ (size .0));
     }
+
+-- the reply of a merge is its number alone
+module _ (a : List ℕ) (i : ℕ) (b : List ℕ) (j : ℕ) (before : List ℕ) (reply : Reply) (after : List ℕ) (m : Merges a i b j before reply after) where
+  pub merge-number : reply .number ≡ firstOf (mergeRefusals a i b j (length before))
+  merge-number =
+      ap (λ (r : Reply). r .number) (m .answer)
+      ∙ by-eq (firstOf (mergeRefusals a i b j (length before))) 0 (λ (r : Reply). r .number ≡ firstOf (mergeRefusals a i b j (length before))) (λ none. sym none) (λ some. refl)
+
+  pub merge-reply : reply ≡ numberOnly (reply .number)
+  merge-reply = m .answer ∙ sym (ap numberOnly merge-number)

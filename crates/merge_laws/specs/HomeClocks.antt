@@ -10,21 +10,19 @@ use lib.Dec.{eqb}
 use lib.ListN.{length}
 use lib.Seq.{take-all}
 use borrow.Author.Tests.{eq-eqb, lt-ltb, le-ltb}
-use Rattle.shape.specs.Limits.{Reply, numberOnly}
+use Rattle.shape.specs.Limits.{numberOnly}
 use Rattle.shape.specs.LimitsLaws.{both}
 use Rattle.model.specs.declared.Record.{Record}
 use Rattle.model.specs.Block.{upFrom}
 use Rattle.model.specs.Sound.{allFrom}
-use Rattle.model.specs.Calls.{firstOf}
 use Rattle.model.specs.Trace.{recordWords, recordAt, recordsOf, soundRecord, soundDay, dayPart, soundTrace, callOf}
 use Rattle.model.specs.Replay.{answerWords, replayCalls, replay}
 use Rattle.model.specs.Claim.{Each}
-use Rattle.model.specs.Merge.{mergeRefusals, Merges}
 use Rattle.model.specs.Home.{onlyDay, MeetsHome, HomeClocks}
-use Rattle.laws.specs.Cond.{and-true, by-eq}
+use Rattle.laws.specs.Cond.{and-true}
 use Rattle.laws.specs.SoundBook.{book-facts}
 use Rattle.days.specs.Records.{day-whole}
-use Rattle.merge_laws.specs.AcceptedMerge.{accepted-merge}
+use Rattle.merge_laws.specs.AcceptedMerge.{accepted-merge, merge-number}
 use Rattle.merge_laws.specs.MergedDay.{merged-home, merged-mergeable, merged-each}
 use Rattle.merge_laws.specs.Meets.{mergeable-meets}
 
@@ -72,9 +70,6 @@ module _ (day : List ℕ) where
 
 -- ---- the theorem
 
-number-of : (n : ℕ) → numberOnly n .number ≡ n
-number-of n = by-eq n 0 (λ (r : Reply). r .number ≡ n) (λ none. sym none) (λ some. refl)
-
 whole-sum : (x y : ℕ) → x % recordWords ≡ 0 → y % recordWords ≡ 0 → (x + y) % recordWords ≡ 0
 whole-sum x y p q = omega arith
 
@@ -86,9 +81,7 @@ home-clocks a i b j before reply after merge done ws sound notPast answers room 
     let ys : List Record = recordsOf (dayPart b j) in
     let out : List Record = recordsOf after in
     let m = merge .merged done in
-    let number : firstOf (mergeRefusals a i b j (length before)) ≡ 0 =
-    sym (number-of (firstOf (mergeRefusals a i b j (length before)))) ∙ sym (ap (λ (r : Reply). r .number) (merge .answer)) ∙ done in
-    let facts = accepted-merge a i b j (length before) number in
+    let facts = accepted-merge a i b j (length before) (sym (merge-number a i b j before reply after merge) ∙ done) in
     let whole : length after % recordWords ≡ 0 =
     ap (λ (n : ℕ). n % recordWords) (merge .size ∙ facts .size) ∙ whole-sum (length (dayPart a i)) (length (dayPart b j)) (day-whole (dayPart a i) (facts .first)) (day-whole (dayPart b j) (facts .second)) in
     let trace = only-sound after (records-day after whole (merged-each xs ys out m (λ r. soundRecord r ≡ true) (day-records (dayPart a i) (facts .first)) (day-records (dayPart b j) (facts .second)))) in

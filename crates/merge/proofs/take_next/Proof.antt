@@ -55,9 +55,11 @@ record-at-requires-2 c κs =
     let d = c .before .before .before .before .before .before .before in
     let a = d .args in
     let m = d .pre .0 in
-    omega (arith,
-    second-there (a .a .now) (a .b .now) (a .p .first .at) (a .p .first .clock) (a .p .second .at) (a .p .second .clock) (sym (c .before .takes-first .ensures) ∙ c .if1 .left)
-    (omega (arith, d .pre .1, counts-add (a .a .now) (a .b .now) (a .out .now) (m .first) (m .second) (m .size))) (m .low))
+    omega (
+      arith,
+      second-there (a .a .now) (a .b .now) (a .p .first .at) (a .p .first .clock) (a .p .second .at) (a .p .second .clock) (sym (c .before .takes-first .ensures) ∙ c .if1 .left)
+          (omega (arith, d .pre .1, counts-add (a .a .now) (a .b .now) (a .out .now) (m .first) (m .second) (m .size))) (m .low),
+    )
 
 put-record-requires-2 : tie.Need-put-record-requires-2
 put-record-requires-2 c κs = search needs

@@ -49,8 +49,7 @@ loop-again : tie.Need-loop-again Inv-loop μ-loop
 loop-again c =
     let n = c .before .before in
     let l = n .before .before .before in
-    let is = n .clock-after .ensures ∙ ap (clockAfter (l .loop .clock)) (n .before .record-at .ensures) in
-    (
+    let is = n .clock-after .ensures ∙ ap (clockAfter (l .loop .clock)) (n .before .record-at .ensures) in (
       omega arith,
       sym (orderly-step (l .before .before .args .day .now) (l .loop .i) (l .loop .clock) _ (n .before .before .loop-test .taken) is (c .before .if1 .left) (c .if2 .left)) ∙ l .loop .inv .1,
     )

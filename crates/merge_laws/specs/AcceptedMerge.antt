@@ -1,6 +1,6 @@
 -- What an accepted merge tells of the two days and of the output, and the number of a merge's reply. Rests on the days of a sound trace being sound.
 use mathlib.Core.Bool.{true, not}
-use mathlib.Core.Path.{_≡_, refl, sym, ap, _∙_}
+use mathlib.Core.Path.{_≡_, refl, sym, ap, subst, _∙_}
 use mathlib.Core.List.{List}
 use Prim.Native.Nat.{ℕ, _+_}
 use native.Mathlib.Omega.{arith}
@@ -48,5 +48,6 @@ module _ (a : List ℕ) (i : ℕ) (b : List ℕ) (j : ℕ) (before : List ℕ) (
       ap (λ (r : Reply). r .number) (m .answer)
       ∙ by-eq (firstOf (mergeRefusals a i b j (length before))) 0 (λ (r : Reply). r .number ≡ firstOf (mergeRefusals a i b j (length before))) (λ none. sym none) (λ some. refl)
 
-  pub merge-reply : reply ≡ numberOnly (reply .number)
-  merge-reply = m .answer ∙ sym (ap numberOnly merge-number)
+  -- so the number tells all of it
+  pub merge-told : (number : ℕ) → number ≡ reply .number → Merges a i b j before (numberOnly number) after
+  merge-told number is = subst (λ (r : Reply). Merges a i b j before r after) (m .answer ∙ ap numberOnly (sym (is ∙ merge-number))) m

@@ -1,6 +1,6 @@
 //! A second implementation of document 01, as plain as it can be. Windows and lateness are those of
 //! document 02, request One; request Two adds traces and their replay, request Four the count of a
-//! delivery's splits.
+//! delivery's splits, request Five what a merge of two days may be.
 //!
 //! It shares nothing with the proved code but the documents. A call decodes the words into vectors
 //! of buckets, inserts decilitre by decilitre, and encodes the vectors again; clarity comes before
@@ -13,6 +13,7 @@ pub mod calls;
 pub mod histogram;
 pub mod layout;
 pub mod ledger;
+pub mod merge;
 pub mod protocol;
 pub mod refusal;
 pub mod replay;

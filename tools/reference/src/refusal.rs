@@ -1,5 +1,5 @@
 //! The refusal numbers (document 01, "Turned down by the input" and "Turned down by the state"; for
-//! replays document 02, request Two).
+//! replays document 02, request Two, for merges request Five).
 
 use std::ops::RangeInclusive;
 
@@ -33,11 +33,17 @@ pub const TRACE: u32 = 13;
 pub const DAY: u32 = 14;
 /// The answers need more words.
 pub const ROOM: u32 = 15;
+/// A day that is to be merged opens without a clock, or its clocks fall or pass the last allowed tick.
+pub const ORDER: u32 = 16;
+/// The output of a merge is not as long as its two days together.
+pub const OUTPUT: u32 = 17;
 
 /// Every refusal of a call on a book.
 pub const CALLS: RangeInclusive<u32> = SHAPE..=FULL;
 /// Every refusal of a whole replay.
 pub const REPLAYS: RangeInclusive<u32> = TRACE..=ROOM;
+/// Every refusal of a merge, in its order.
+pub const MERGES: [u32; 4] = [TRACE, DAY, ORDER, OUTPUT];
 
 /// Refuses with `number` where `condition` holds.
 pub fn when(condition: bool, number: u32) -> Result<(), u32> {

@@ -2,7 +2,7 @@
 
 use crate::calls::{perform, Answer, Call, Reply};
 use crate::refusal::{self, when};
-use crate::trace::{self, RECORD_WORDS};
+use crate::trace;
 
 /// Words of the answer to a record: the number of its refusal or 0, then its sum or 0.
 pub const ANSWER_WORDS: usize = 2;
@@ -33,11 +33,9 @@ pub fn replay(
 
 /// The calls that a replay with so many answer words consists of; they are also what a ledger is fed.
 pub fn calls(trace: &[u32], day: u32, room: usize) -> Result<Vec<Call>, u32> {
-    let part = find_day(trace, day)?;
-    let records = part.chunks(RECORD_WORDS);
-    when(room < ANSWER_WORDS * records.len(), refusal::ROOM)?;
-    let call = |record| trace::call(record).expect("a found day has records that read");
-    Ok(records.map(call).collect())
+    let calls = trace::calls(find_day(trace, day)?);
+    when(room < ANSWER_WORDS * calls.len(), refusal::ROOM)?;
+    Ok(calls.collect())
 }
 
 /// What is written for a record that was answered so.

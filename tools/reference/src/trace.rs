@@ -229,6 +229,12 @@ pub fn call(record: &[u32]) -> Result<Call, usize> {
     }
 }
 
+/// The calls of a day that was found.
+pub fn calls(day: &[u32]) -> impl ExactSizeIterator<Item = Call> + '_ {
+    let call = |record| call(record).expect("a found day has records that read");
+    day.chunks(RECORD_WORDS).map(call)
+}
+
 /// The record of a call; a make has none.
 pub fn record(call: Call) -> Option<Record> {
     match call {

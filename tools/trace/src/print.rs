@@ -3,7 +3,7 @@
 use std::fmt::Write;
 
 use reference::protocol::line;
-use reference::trace::{call, days, RECORD_WORDS};
+use reference::trace::{calls, days};
 
 /// The words of bytes, the low one of each first; the error says why they are none.
 pub fn words(bytes: &[u8]) -> Result<Vec<u32>, String> {
@@ -26,8 +26,7 @@ pub fn print(trace: &[u32]) -> Result<String, String> {
     for (number, part) in days.into_iter().enumerate() {
         let (start, words) = (part.start, part.len());
         writeln!(text, "day {number}: start {start}, words {words}").expect(TAKES_ALL);
-        for record in trace[part].chunks(RECORD_WORDS) {
-            let call = call(record).expect("a trace without a fault has records that read");
+        for call in calls(&trace[part]) {
             writeln!(text, "{}", line(call)).expect(TAKES_ALL);
         }
     }

@@ -1,5 +1,5 @@
-//! Random shapes, calls, books and traces for everything that is compared with the second program. All
-//! draws come from a seed, so that a run can be repeated.
+//! Random shapes, calls, books, traces and merges for everything that is compared with the second program.
+//! All draws come from a seed, so that a run can be repeated.
 
 #![forbid(unsafe_code)]
 #![warn(missing_docs)]
@@ -8,6 +8,7 @@ pub mod book;
 pub mod calls;
 pub mod damage;
 pub mod edges;
+pub mod merge;
 pub mod pace;
 pub mod places;
 pub mod random;
@@ -15,5 +16,6 @@ pub mod shapes;
 pub mod sound;
 pub mod tally;
 pub mod trace;
+pub mod trial;
 pub mod view;
 pub mod wrapped;

@@ -69,6 +69,16 @@ pub fn draw(random: &mut Random) -> Shape {
     })
 }
 
+/// The same, but of a book with at most so many words. The example has 90.
+pub fn draw_short(random: &mut Random, longest: usize) -> Shape {
+    loop {
+        let shape = draw(random);
+        if shape.book_length() <= longest {
+            return shape;
+        }
+    }
+}
+
 /// The shapes for which a make is accepted.
 #[derive(Clone, Copy, Debug, PartialEq, Eq)]
 pub enum Makes {

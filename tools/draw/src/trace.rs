@@ -138,7 +138,7 @@ impl Writer {
 }
 
 /// Other numbers where the record has numbers.
-fn any_numbers(random: &mut Random, record: Record) -> Record {
+pub(crate) fn any_numbers(random: &mut Random, record: Record) -> Record {
     let mut other = record;
     for place in 1..RECORD_WORDS {
         let mut tried = other;

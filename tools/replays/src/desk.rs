@@ -15,8 +15,8 @@ use crate::implementation::{Implementation, Lent};
 
 /// Words past the book, for replays that are lent more than it has.
 pub const TAIL: usize = 24;
-/// Words around the answers, and around the trace.
-const MARGIN: usize = 5;
+/// Words around the answers, and around a trace.
+pub const MARGIN: usize = 5;
 
 /// The calls of an accepted replay with their answers, or the number of its refusal.
 pub type Outcome = Result<Vec<(Call, Reply)>, u32>;
@@ -77,14 +77,14 @@ impl Desk {
         asked: Asked,
     ) -> Result<Outcome, Box<Difference>> {
         let Asked { day, room, .. } = asked;
-        let around = self.around(asked.trace);
+        let around = around(&mut self.random, asked.trace);
         let kept = around.clone();
         let trace = &around[MARGIN..MARGIN + asked.trace.len()];
         let asked = Asked { trace, ..asked };
         check_part(implementation, asked)?;
         let before = Side {
             book: self.words.clone(),
-            answers: self.answers(room),
+            answers: unlikely(&mut self.random, room),
         };
         let mut ours = before.clone();
         let expected = self.lent(&mut ours, asked).by(replay::replay);
@@ -118,18 +118,6 @@ impl Desk {
         Ok(outcome)
     }
 
-    /// Words for the answers and around them, none of which an answer is likely to be.
-    fn answers(&mut self, room: usize) -> Vec<u32> {
-        let words = 0..room + 2 * MARGIN;
-        words.map(|_| self.random.word() | 1 << 31).collect()
-    }
-
-    /// The trace with other words around it.
-    fn around(&mut self, trace: &[u32]) -> Vec<u32> {
-        let mut margin = || [(); MARGIN].map(|()| self.random.word());
-        [&margin()[..], trace, &margin()].concat()
-    }
-
     /// What a replay is lent of a side.
     fn lent<'l>(&self, side: &'l mut Side, asked: Asked<'l>) -> Lent<'l> {
         Lent {
@@ -154,6 +142,18 @@ impl Desk {
         let book = book.map(|word| (Of::Book, word));
         book.or_else(|| answers().map(|word| (Of::Answers, word)))
     }
+}
+
+/// So many words to be written and others around them, none of which is likely to be written.
+pub fn unlikely(random: &mut Random, room: usize) -> Vec<u32> {
+    let words = 0..room + 2 * MARGIN;
+    words.map(|_| random.word() | 1 << 31).collect()
+}
+
+/// The words of a trace with others around them.
+pub fn around(random: &mut Random, trace: &[u32]) -> Vec<u32> {
+    let mut margin = || [(); MARGIN].map(|()| random.word());
+    [&margin()[..], trace, &margin()].concat()
 }
 
 /// The parts must be the same words at the same place, not only equal ones.

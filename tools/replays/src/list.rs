@@ -29,12 +29,7 @@ pub struct List<'i, I> {
 impl<'i, I: Implementation> List<'i, I> {
     /// The list after an accepted make of a shape with a short book.
     pub fn new(implementation: &'i I, random: &mut Random) -> Result<List<'i, I>, Box<Difference>> {
-        let shape = loop {
-            let shape = shapes::draw(random);
-            if shape.book_length() <= LONGEST {
-                break shape;
-            }
-        };
+        let shape = shapes::draw_short(random, LONGEST);
         let length = shape.book_length();
         let mut desk = Desk::new(random, &vec![0; length]);
         let made = desk.call(implementation, call_of(shape.numbers()))?;

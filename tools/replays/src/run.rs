@@ -1,7 +1,5 @@
 //! A whole run: traces in turn, each for a book, up to the first difference.
 
-use std::fmt::{self, Display, Formatter};
-
 use draw::book::{other_length, Book};
 use draw::damage::changed;
 use draw::random::Random;
@@ -21,40 +19,17 @@ const EVERY_WORD: usize = 120;
 const EVERY_ROOM: usize = 4;
 
 /// The trace on which the sides differ.
-#[derive(Clone, Debug, PartialEq, Eq)]
-pub struct Failure {
-    /// The run's seed.
-    pub seed: u64,
-    /// The trace, counted from 0.
-    pub trace: u64,
-    /// What differs.
-    pub difference: Box<Difference>,
-}
+pub type Failure = draw::trial::Failure<Difference>;
 
-impl Display for Failure {
-    fn fmt(&self, f: &mut Formatter<'_>) -> fmt::Result {
-        let (seed, trace) = (self.seed, self.trace);
-        write!(f, "seed {seed}, trace {trace}\n{}", self.difference)
-    }
-}
-
-/// Every trace through both sides. A trace depends on the seed and its number alone.
+/// Every trace through both sides.
 pub fn run(
     implementation: &impl Implementation,
     seed: u64,
     traces: impl Iterator<Item = u64>,
 ) -> Result<Summary, Box<Failure>> {
-    let mut summary = Summary::default();
-    for trace in traces {
-        let mut random = Random::of_trial(seed, trace);
-        let result = trial(implementation, &mut random, &mut summary);
-        result.map_err(|difference| Failure {
-            seed,
-            trace,
-            difference,
-        })?;
-    }
-    Ok(summary)
+    draw::trial::run("trace", seed, traces, |random, summary| {
+        trial(implementation, random, summary)
+    })
 }
 
 fn trial(

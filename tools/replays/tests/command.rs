@@ -139,7 +139,8 @@ fn differences_in_words() {
     };
     let failure = Failure {
         seed: 1,
-        trace: 7,
+        name: "trace",
+        number: 7,
         difference: Box::new(ledger),
     };
     let text = "seed 1, trace 7\ncall Clock { clock: 3 }: refused 10, the ledger: ok";

@@ -41,18 +41,19 @@
  * There is no pointer in a trace.
  *
  * A call gets its words as a pointer and a count: `book` points to `len` words, `trace` to
- * `trace_len`, `answers` to `answers_len`. The caller must meet these conditions for each of them:
+ * `trace_len`, `answers` to `answers_len`, `first` to `first_len`, `second` to `second_len`, `out`
+ * to `out_len`. The caller must meet these conditions for each of them:
  *   - the pointer is aligned for uint32_t and is not null, even where the count is 0;
  *   - all words may be read and, where the pointer is not to const, written;
  *   - no other thread writes any of them during the call, nor reads any that the call may write;
  *   - words that a call may write, and the variables that it writes, overlap nothing else that it
- *     is given.
+ *     is given; words that it only reads may overlap each other.
  * There are no other conditions on them: every length, all words and all numbers get an answer.
  *
  * Every call except litres_words returns 0 if it is accepted, else the number of a refusal. A
- * refused call changes no word of a book or of answers. If several refusals apply, the call returns
- * the first one in the order that stands with it. LITRES_REFUSALS lists the refusals, and
- * litres_text puts a number into words.
+ * refused call changes no word of a book, of answers or of an output. If several refusals apply,
+ * the call returns the first one in the order that stands with it. LITRES_REFUSALS lists the
+ * refusals, and litres_text puts a number into words.
  */
 #ifndef LITRES_H
 #define LITRES_H
@@ -67,8 +68,8 @@
  */
 #define LITRES_VERSION_MAJOR 0
 #define LITRES_VERSION_MINOR 3
-#define LITRES_VERSION_PATCH 0
-#define LITRES_VERSION "0.3.0"
+#define LITRES_VERSION_PATCH 1
+#define LITRES_VERSION "0.3.1"
 
 /* Of traces: most days, words of a record, words of its answer, and the kinds of records. */
 #define LITRES_MAX_DAYS 64
@@ -94,7 +95,9 @@
     X(12, LITRES_FULL, "the interval has no room for the volume")                                 \
     X(13, LITRES_TRACE, "the trace breaks its layout or has an unsound record")                   \
     X(14, LITRES_DAY, "the trace has no such day")                                                \
-    X(15, LITRES_ROOM, "the answers need more words")
+    X(15, LITRES_ROOM, "the answers need more words")                                             \
+    X(16, LITRES_ORDER, "a day opens with no clock, or clocks fall or pass 2000000000")           \
+    X(17, LITRES_OUTPUT, "the output is not as long as the two days together")
 
 #define LITRES_ENUMERATOR(number, name, text) name = number,
 enum { LITRES_ACCEPTED = 0, LITRES_REFUSALS(LITRES_ENUMERATOR) };
@@ -168,6 +171,22 @@ uint32_t litres_day(const uint32_t *trace, size_t trace_len, uint32_t day, size_
  */
 uint32_t litres_replay(uint32_t *book, size_t len, const uint32_t *trace, size_t trace_len,
                        uint32_t day, uint32_t *answers, size_t answers_len);
+
+/*
+ * Merges two days into one, such as those of two controllers at one site, and writes it to `out`. It
+ * has every record of both days. Each day's own order is kept, and clocks never fall, where the
+ * clock of a record is that of the last clock record up to it in its own day. Which of the two days
+ * comes first among records of equal clock is undecided: do not rely on what this version does. A
+ * day may be empty, and a day may be merged with itself.
+ * Only records are written. With the words 1, 3 and out_len before them they are a trace of which
+ * the merged day is the only one, as long as out_len is below 2^32. Replayed on a sound book whose
+ * clock is not past the day's first, each record meets the clock that it had in its own day.
+ * Refused, in this order: 13 (for either trace; any record of any day counts), 14 (for either), 16
+ * (for either day; other days do not count), 17.
+ */
+uint32_t litres_merge(const uint32_t *first, size_t first_len, uint32_t first_day,
+                      const uint32_t *second, size_t second_len, uint32_t second_day,
+                      uint32_t *out, size_t out_len);
 
 #ifdef __cplusplus
 }

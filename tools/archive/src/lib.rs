@@ -1,4 +1,4 @@
-//! The static library under the second program's types: one function over all calls, and the two of
+//! The static library under the second program's types: one function over all calls, and the three of
 //! traces.
 
 #![forbid(unsafe_code)]
@@ -6,6 +6,7 @@
 
 use litres::Refused;
 use reference::calls::{Answer, Call, Reply};
+use reference::merge::Named;
 
 /// Performs any call through the Rust wrapper.
 pub fn perform(book: &mut [u32], call: Call) -> Reply {
@@ -30,6 +31,11 @@ pub fn find_day(trace: &[u32], day: u32) -> Result<&[u32], u32> {
 /// Replays a day through the Rust wrapper.
 pub fn replay(book: &mut [u32], trace: &[u32], day: u32, answers: &mut [u32]) -> Result<(), u32> {
     litres::replay(book, trace, day, answers).map_err(number)
+}
+
+/// Merges two days through the Rust wrapper.
+pub fn merge([first, second]: [Named; 2], out: &mut [u32]) -> Result<(), u32> {
+    litres::merge(first.trace, first.day, second.trace, second.day, out).map_err(number)
 }
 
 fn done((): ()) -> Answer {

@@ -35,4 +35,14 @@ extern "C" {
         answers: *mut u32,
         answers_len: usize,
     ) -> u32;
+    pub fn litres_merge(
+        first: *const u32,
+        first_len: usize,
+        first_day: u32,
+        second: *const u32,
+        second_len: usize,
+        second_day: u32,
+        out: *mut u32,
+        out_len: usize,
+    ) -> u32;
 }

@@ -31,6 +31,18 @@
 //! assert_eq!(answers, [0, 0, 0, 0, 0, 5]); // all accepted, and the sum is 5
 //! # Ok::<(), litres::Refused>(())
 //! ```
+//!
+//! Two days become one, in the order of their clocks:
+//!
+//! ```
+//! // One day of each trace: clocks 1 and 3, and clock 2 with a delivery.
+//! let first = [1, 3, 8, 1, 1, 0, 0, 1, 3, 0, 0];
+//! let second = [1, 3, 8, 1, 2, 0, 0, 2, 0, 1, 5];
+//! let mut merged = [0; 16];
+//! litres::merge(&first, 0, &second, 0, &mut merged)?;
+//! assert_eq!(merged, [1, 1, 0, 0, 1, 2, 0, 0, 2, 0, 1, 5, 1, 3, 0, 0]);
+//! # Ok::<(), litres::Refused>(())
+//! ```
 
 #![warn(missing_docs)]
 
@@ -127,6 +139,35 @@ pub fn replay(
     // three overlap, since `book` and `answers` are exclusive.
     accepted(unsafe {
         archive::litres_replay(words, len, read, read_len, day, written, written_len)
+    })
+}
+
+/// Merges a day of one trace with a day of another, or of the same, and writes the merged day: every record of
+/// both, each day's own order kept, and clocks never falling. `include/litres.h` says what a record's clock
+/// is. The order of the two days at an equal clock is undecided. `out` has as many words as both days.
+pub fn merge(
+    first: &[u32],
+    first_day: u32,
+    second: &[u32],
+    second_day: u32,
+    out: &mut [u32],
+) -> Result<(), Refused> {
+    let (one, one_len) = (first.as_ptr(), first.len());
+    let (other, other_len) = (second.as_ptr(), second.len());
+    let (written, written_len) = (out.as_mut_ptr(), out.len());
+    // SAFETY: as for `find_day` for `first` and `second`, which may overlap each other, and as for `make`
+    // for `out`, which overlaps neither, since it is exclusive.
+    accepted(unsafe {
+        archive::litres_merge(
+            one,
+            one_len,
+            first_day,
+            other,
+            other_len,
+            second_day,
+            written,
+            written_len,
+        )
     })
 }
 

@@ -3,7 +3,8 @@
 use std::error::Error;
 use std::fmt::{self, Display, Formatter};
 
-/// A call was refused under this number; no word of the book changed, nor of a replay's answers.
+/// A call was refused under this number; no word of the book changed, nor of a replay's answers or a merge's
+/// output.
 #[derive(Clone, Copy, Debug, PartialEq, Eq, Hash)]
 pub struct Refused(pub u32);
 
@@ -46,6 +47,8 @@ refusals! {
     13 TRACE "the trace breaks its layout or has an unsound record";
     14 DAY "the trace has no such day";
     15 ROOM "the answers need more words";
+    16 ORDER "a day opens with no clock, or clocks fall or pass 2000000000";
+    17 OUTPUT "the output is not as long as the two days together";
 }
 
 impl Display for Refused {

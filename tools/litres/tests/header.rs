@@ -73,7 +73,7 @@ fn a_refusal_displays_its_text() {
         assert_eq!(Refused(number).to_string(), text);
     }
     assert_eq!(Refused::FULL, Refused(12));
-    assert_eq!(Refused::ROOM, Refused(15));
+    assert_eq!(Refused::OUTPUT, Refused(17));
 }
 
 #[test]

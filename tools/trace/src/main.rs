@@ -1,12 +1,15 @@
-//! Makes a trace, or prints one.
+//! Makes a trace, merges two days of traces, or prints one.
 
+use std::fmt::Display;
 use std::fs;
 use std::io::{self, Write};
 use std::path::{Path, PathBuf};
 use std::process::ExitCode;
 
+use reference::merge::Named;
 use trace::command::{Command, USAGE};
 use trace::make::{bytes, make};
+use trace::merge::merge;
 use trace::print::{print, words};
 
 fn main() -> ExitCode {
@@ -26,24 +29,37 @@ fn run(command: Command) -> Result<(), String> {
             let days: Result<Vec<_>, String> = days.iter().map(named).collect();
             write(output.as_deref(), &bytes(&make(&days?)?))
         }
+        Command::Merge { output, days } => {
+            let [(first, first_day), (second, second_day)] = days;
+            let (first, second) = (read_words(&first)?, read_words(&second)?);
+            let named = [(&first, first_day), (&second, second_day)];
+            let merged = merge(named.map(|(trace, day)| Named { trace, day }))?;
+            write(output.as_deref(), &bytes(&merged))
+        }
         Command::Print(file) => {
-            let text = words(&read(&file)?).and_then(|words| print(&words));
-            let text = text.map_err(|trouble| format!("{}: {trouble}", file.display()))?;
+            let text = print(&read_words(&file)?).map_err(|trouble| of_file(&file, trouble))?;
             write(None, text.as_bytes())
         }
     }
 }
 
+/// The words of a trace.
+fn read_words(file: &Path) -> Result<Vec<u32>, String> {
+    words(&read(file)?).map_err(|trouble| of_file(file, trouble))
+}
+
 fn read(file: &Path) -> Result<Vec<u8>, String> {
-    fs::read(file).map_err(|error| format!("{}: {error}", file.display()))
+    fs::read(file).map_err(|error| of_file(file, error))
+}
+
+fn of_file(file: &Path, trouble: impl Display) -> String {
+    format!("{}: {trouble}", file.display())
 }
 
 /// Writes to a file, or to standard output where none is named.
 fn write(file: Option<&Path>, bytes: &[u8]) -> Result<(), String> {
     match file {
-        Some(file) => {
-            fs::write(file, bytes).map_err(|error| format!("{}: {error}", file.display()))
-        }
+        Some(file) => fs::write(file, bytes).map_err(|error| of_file(file, error)),
         None => {
             let mut output = io::stdout().lock();
             let written = output.write_all(bytes).and_then(|()| output.flush());

@@ -1,4 +1,5 @@
-//! The program on files: a trace made from lines, printed again, and what is wrong with either.
+//! The program on files: a trace made from lines, printed again, two days merged, and what is wrong with any
+//! of this.
 
 use std::ffi::OsStr;
 use std::path::{Path, PathBuf};
@@ -143,17 +144,92 @@ fn broken_layouts_are_explained() {
     assert_eq!(said("none", b""), none);
 }
 
+/// The words of a command line that merges days of two files.
+fn merge<'w>(first: &'w Path, day: &'w str, second: &'w Path, other: &'w str) -> [&'w OsStr; 5] {
+    let [command, day, other] = ["merge", day, other].map(OsStr::new);
+    [command, first.as_os_str(), day, second.as_os_str(), other]
+}
+
+/// No clock is in both days, so that they have one merged day.
+#[test]
+fn two_days_merged() {
+    let folder = Folder::new("merge");
+    let day = |name: &str, lines: &str| {
+        let lines = folder.file(name, lines);
+        let trace = printed(&[Path::new("make"), &folder.file("empty", ""), &lines]);
+        folder.file(&format!("{name}.trace"), trace)
+    };
+    let odd = day("odd", "c 1\nd 0 1 5\nc 3\nq 0 2\n");
+    let even = day("even", "c 2\nd 0 0 7\n");
+    let output = folder.0.join("merged");
+    let words = merge(&odd, "1", &even, "1");
+    let to_file = [&[OsStr::new("-o"), output.as_os_str()], &words[..]].concat();
+    assert_eq!(printed(&to_file), b"");
+    let text = String::from_utf8(printed(&[Path::new("print"), &output])).unwrap();
+    let head = "days 1, words 27\nday 0: start 3, words 24\n";
+    assert_eq!(
+        text,
+        format!("{head}c 1\nd 0 1 5\nc 2\nd 0 0 7\nc 3\nq 0 2\n")
+    );
+    let output = fs::read(output).expect("a written file");
+    assert_eq!(printed(&words), output);
+    assert_eq!(printed(&merge(&even, "1", &odd, "1")), output);
+    assert_eq!(printed(&merge(&even, "0", &odd, "0")), bytes(&[1, 3, 0]));
+}
+
+/// The refusal is the merge's own, which looks at both traces before it looks for a day.
+#[test]
+fn days_that_are_not_merged() {
+    let folder = Folder::new("refused");
+    let trace = folder.file("trace", bytes(&EXAMPLE));
+    let broken = folder.file("broken", bytes(&EXAMPLE[..24]));
+    let disorder = folder.file("disorder", bytes(&[1, 3, 4, 3, 0, 2, 0]));
+    let cases = [
+        (
+            merge(&trace, "2", &broken, "1"),
+            "refused 13, the trace breaks",
+        ),
+        (
+            merge(&disorder, "0", &trace, "2"),
+            "refused 14, the trace has no",
+        ),
+        (
+            merge(&trace, "1", &disorder, "0"),
+            "refused 16, a day opens with no clock",
+        ),
+    ];
+    for (words, reason) in cases {
+        let said = trouble(&words, 1);
+        assert!(said.starts_with(reason), "{said}");
+    }
+    let half = folder.file("half", &bytes(&EXAMPLE)[..98]);
+    let said = trouble(&merge(&trace, "0", &half, "0"), 1);
+    assert!(
+        said.ends_with("half: 98 bytes are no whole 32-bit words\n"),
+        "{said}"
+    );
+}
+
 #[test]
 fn wrong_command_lines() {
     for (words, reason) in [
-        (&[][..], "make or print is missing"),
+        (&[][..], "make, merge or print is missing"),
         (&["make"], "DAY is missing"),
         (&["print"], "FILE is missing"),
         (&["print", "a", "b"], "one word too many: b"),
-        (&["print", "-o", "a", "b"], "-o goes with make"),
+        (&["print", "-o", "a", "b"], "-o goes with make and merge"),
+        (&["merge"], "FIRST is missing"),
+        (&["merge", "a"], "its N is missing"),
+        (&["merge", "a", "0", "b"], "its N is missing"),
+        (&["merge", "a", "0", "b", "1", "c"], "one word too many: c"),
+        (&["merge", "a", "0", "b", "c"], "no number of a day: c"),
+        (
+            &["merge", "a", "4294967296", "b", "0"],
+            "no number of a day: 4294967296",
+        ),
         (&["make", "-o"], "-o needs a file"),
         (&["make", "--other", "a"], "unknown or twice: --other"),
-        (&["show", "a"], "neither make nor print: show"),
+        (&["show", "a"], "neither make nor merge nor print: show"),
     ] {
         let said = trouble(words, 2);
         assert!(said.starts_with(&format!("{reason}\n\nusage: ")), "{said}");

@@ -140,12 +140,8 @@ pub fn bar(times: &Times<2>) -> String {
 
 /// How far the ratio of a second run is from that of the first.
 pub fn moved(first: &Times<2>, second: &Times<2>) -> String {
-    let [was, is] = [first, second].map(|times| times.ratio(REPLAYED, SEPARATE));
-    let by = is / was - 1.0;
-    let (percent, verdict) = (100.0 * by, report::steady(by));
-    format!(
-        "A replayed record against its call: {was:.3}, then {is:.3}, moved {percent:+.1} %; {verdict}."
-    )
+    let ratios = [first, second].map(|times| times.ratio(REPLAYED, SEPARATE));
+    report::moved_ratio("A replayed record against its call", ratios)
 }
 
 #[cfg(test)]

@@ -17,8 +17,9 @@ pub const TIMED: usize = CANDIDATES.len() + READS.len();
 /// time after which another process may get the processor.
 const WORDS_PER_BATCH: usize = 1 << 18;
 
-/// Microseconds of one call, round by round, for each of those that are timed side by side: the static
-/// library, (a), (b), (c) and (c4), or for a replayed day the separate calls and the replay.
+/// Microseconds, round by round, for each of those that are timed side by side: of one call the static
+/// library, (a), (b), (c) and (c4); of a replayed day the separate calls and the replay, for a record; of
+/// merged days the copy and two merges.
 pub struct Times<const N: usize = TIMED> {
     rounds: Vec<[f64; N]>,
 }

@@ -132,7 +132,8 @@ fn filled(shape: Shape, book: &[u32]) -> String {
     format!("{even} + {odd} of 2 x {} levels full", shape.levels())
 }
 
-fn thousands(number: usize) -> String {
+/// A number with a comma before each three digits.
+pub fn thousands(number: usize) -> String {
     match number / 1000 {
         0 => number.to_string(),
         thousand => format!("{},{:03}", thousands(thousand), number % 1000),
@@ -208,8 +209,15 @@ pub fn bar(name: &str, most: f64, measured: f64, digits: usize) -> String {
     format!("| {name} | {most} | {measured:.digits$} | {verdict} |\n")
 }
 
+/// How far a ratio of a second run is from the first run's, in words.
+pub fn moved_ratio(name: &str, [was, is]: [f64; 2]) -> String {
+    let by = is / was - 1.0;
+    let (percent, verdict) = (100.0 * by, steady(by));
+    format!("{name}: {was:.3}, then {is:.3}, moved {percent:+.1} %; {verdict}.")
+}
+
 /// Whether a ratio of a second run is near enough to the first run's, in words; `by` is how far it moved.
-pub fn steady(by: f64) -> String {
+fn steady(by: f64) -> String {
     let verdict = verdict(by.abs() <= STEADY);
     format!("at most {} %: {verdict}", 100.0 * STEADY)
 }

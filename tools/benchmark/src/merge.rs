@@ -170,18 +170,17 @@ mod tests {
     use crate::measure::Times;
     use draw::random::Random;
     use reference::merge::{home_clocks, split};
-    use reference::trace::{days, CLOCK, DELIVERY, QUERY};
+    use reference::replay::find_day;
+    use reference::trace::{CLOCK, DELIVERY, QUERY};
 
     /// The expected output is a merged day, which the merge is compared with.
     #[test]
     fn merged_days_of_mixed_records() {
         let pair = Pair::new(300);
-        let parts = pair.traces.each_ref().map(|trace| {
-            let days = days(trace).expect("a sound trace");
-            assert_eq!(days, [3..1_203]);
-            &trace[3..]
-        });
-        assert!(split(parts, &pair.expected).is_some());
+        let days = pair.traces.each_ref();
+        let days = days.map(|trace| find_day(trace, 0).expect("a sound trace"));
+        assert!(days.iter().all(|day| day.len() == 1_200));
+        assert!(split(days, &pair.expected).is_some());
         let time = measure(&mut [300, 600].map(Pair::new), 0);
         assert!(time.iter().all(|time| *time > 0.0));
     }

@@ -99,27 +99,7 @@ pub fn replay(
     })?;
     let answered = answered.expect("a trace with a day and room for its answers");
     let replies: Vec<Reply> = answered.into_iter().map(|(_, reply)| reply).collect();
-    let (mut left, mut answers) = (book.to_vec(), vec![0; asked.room]);
-    let records = words
-        .chunks(RECORD_WORDS)
-        .zip(answers.chunks_mut(ANSWER_WORDS));
-    for (number, ((record, answers), expected)) in records.zip(clocks).enumerate() {
-        let lent = Lent {
-            book: &mut left,
-            trace: &lay_out(&[record]),
-            day: 0,
-            answers,
-        };
-        let found = implementation.replay(lent).map(|()| left[layout::CLOCK]);
-        if found != Ok(*expected) {
-            return Err(What::Clock {
-                output: words.clone(),
-                record: number,
-                expected: *expected,
-                found,
-            });
-        }
-    }
+    let (left, answers) = record_by_record(implementation, book, merged)?;
     let expected: Vec<u32> = replies.iter().copied().flat_map(answer_words).collect();
     let of_book = WordDifference::first(book, desk.book(), &left, 0);
     let of_answers = WordDifference::first(&vec![0; asked.room], &expected, &answers, 0);
@@ -128,4 +108,35 @@ pub fn replay(
         (_, Some(word)) => Err(What::Word(Of::Answers, word)),
         (None, None) => Ok(replies),
     }
+}
+
+/// Replays each record as a trace of its own, after which the book shows the clock that it met. It gives the
+/// words that are left of the book, and the answers.
+fn record_by_record(
+    implementation: &impl Implementation,
+    book: &[u32],
+    merged: &Merged,
+) -> Result<(Vec<u32>, Vec<u32>), What> {
+    let (mut left, mut answers) = (book.to_vec(), Vec::new());
+    let records = merged.words.chunks(RECORD_WORDS).zip(&merged.clocks);
+    for (number, (record, expected)) in records.enumerate() {
+        let mut answer = [0; ANSWER_WORDS];
+        let lent = Lent {
+            book: &mut left,
+            trace: &lay_out(&[record]),
+            day: 0,
+            answers: &mut answer,
+        };
+        let found = implementation.replay(lent).map(|()| left[layout::CLOCK]);
+        if found != Ok(*expected) {
+            return Err(What::Clock {
+                output: merged.words.clone(),
+                record: number,
+                expected: *expected,
+                found,
+            });
+        }
+        answers.extend(answer);
+    }
+    Ok((left, answers))
 }

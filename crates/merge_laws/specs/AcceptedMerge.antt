@@ -1,12 +1,12 @@
 -- What an accepted merge tells of the two days and of the output, and the number of a merge's reply. Rests on the days of a sound trace being sound.
-use mathlib.Core.Bool.{true, not}
+use mathlib.Core.Bool.{true, false, not}
 use mathlib.Core.Path.{_≡_, refl, sym, ap, subst, _∙_}
-use mathlib.Core.List.{List}
+use mathlib.Core.List.{List, [], _∷_}
 use Prim.Native.Nat.{ℕ, _+_}
 use native.Mathlib.Omega.{arith}
 use lib.Dec.{ltb, eqb}
 use lib.ListN.{length}
-use borrow.Author.Tests.{not-false, ltb-true, eqb-true}
+use borrow.Author.Tests.{not-false, ltb-true, le-ltb, eqb-true}
 use Rattle.shape.specs.Limits.{Reply, numberOnly}
 use Rattle.model.specs.Calls.{firstOf}
 use Rattle.model.specs.Trace.{recordsOf, soundDay, dayCount, dayPart, soundTrace}
@@ -51,3 +51,8 @@ module _ (a : List ℕ) (i : ℕ) (b : List ℕ) (j : ℕ) (before : List ℕ) (
   -- so the number tells all of it
   pub merge-told : (number : ℕ) → number ≡ reply .number → Merges a i b j before (numberOnly number) after
   merge-told number is = subst (λ (r : Reply). Merges a i b j before r after) (m .answer ∙ ap numberOnly (sym (is ∙ merge-number))) m
+
+-- a trace without words has no day
+pub no-day : (trace : List ℕ) (day : ℕ) → length trace ≡ 0 → false ≡ ltb day (dayCount trace)
+no-day [] day h = sym (le-ltb day 0 (omega arith))
+no-day (w ∷ ws) day h = absurd (omega arith)

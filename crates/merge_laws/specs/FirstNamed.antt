@@ -4,11 +4,11 @@ use mathlib.Core.Bool.{Bool, true, false, cond, not, _&&_}
 use mathlib.Core.Path.{_≡_, refl, sym, ap, ap₂, subst, _∙_}
 use mathlib.Core.Logic.{⊎-elim}
 use mathlib.Core.List.{List, [], _∷_, _++_, map}
-use Prim.Native.Nat.{ℕ, zero, suc, _+_, _*_, _/_, _≤_, _<_}
+use Prim.Native.Nat.{ℕ, zero, suc, _+_, _*_, _/_}
 use native.Mathlib.Omega.{arith}
-use lib.Dec.{leb, eqb}
+use lib.Dec.{leb, ltb, eqb}
 use lib.ListN.{length}
-use borrow.Author.Tests.{leb-false, le-leb, lt-ltb, le-ltb, eq-eqb, ne-eqb}
+use borrow.Author.Tests.{leb-false, le-leb, eq-eqb, ne-eqb}
 use Rattle.shape.specs.Limits.{Reply, accepted, refused}
 use Rattle.shape.specs.LimitsLaws.{both}
 use Rattle.model.specs.declared.Record.{Record}
@@ -52,47 +52,49 @@ unfoldable pub mergeFirst : List ℕ → ℕ → List ℕ → ℕ → List ℕ �
 mergeFirst a i b j before =
     settle (mergeRefusals a i b j (length before)) before (outcomeOf (accepted []) (mergedWords (dayPart a i) (dayPart b j)))
 
--- ---- by the code's tests
+-- ---- by the code's tests, each of which is made of both sides
+
+both-first : (a b : Bool) (n rest : ℕ) → cond (not a) n (cond (not b) n rest) ≡ cond (not (a && b)) n rest
+both-first true b n rest = refl
+both-first false b n rest = refl
 
 module _ (a : List ℕ) (i : ℕ) (b : List ℕ) (j : ℕ) (before : List ℕ) where
-  pub first-unsound : soundTrace a ≡ false → outcomeOf (refused 13) before ≡ mergeFirst a i b j before
-  unfolding mergeFirst
-  first-unsound h = rw h
+  abbrev bothSound : Bool
+  bothSound = soundTrace a && soundTrace b
 
-  pub second-unsound : soundTrace a ≡ true → soundTrace b ≡ false → outcomeOf (refused 13) before ≡ mergeFirst a i b j before
-  unfolding mergeFirst
-  second-unsound h g = rw (h, g)
+  abbrev bothThere : Bool
+  bothThere = ltb i (dayCount a) && ltb j (dayCount b)
 
-  pub first-missing : soundTrace a ≡ true → soundTrace b ≡ true → dayCount a ≤ i → outcomeOf (refused 14) before ≡ mergeFirst a i b j before
+  pub unsound-merge : bothSound ≡ false → outcomeOf (refused 13) before ≡ mergeFirst a i b j before
   unfolding mergeFirst
-  first-missing h g none = rw (h, g, le-ltb i (dayCount a) none)
+  unsound-merge h = rw (both-first (soundTrace a) (soundTrace b), h)
 
-  pub second-missing : soundTrace a ≡ true → soundTrace b ≡ true → i < dayCount a → dayCount b ≤ j → outcomeOf (refused 14) before ≡ mergeFirst a i b j before
+  pub missing-merge : bothSound ≡ true → bothThere ≡ false → outcomeOf (refused 14) before ≡ mergeFirst a i b j before
   unfolding mergeFirst
-  second-missing h g there none = rw (h, g, lt-ltb i (dayCount a) there, le-ltb j (dayCount b) none)
+  missing-merge h g = rw (both-first (soundTrace a) (soundTrace b), h, both-first (ltb i (dayCount a)) (ltb j (dayCount b)), g)
 
-  pub both-found : soundTrace a ≡ true → soundTrace b ≡ true → i < dayCount a → j < dayCount b → mergeDays (dayPart a i) (dayPart b j) before ≡ mergeFirst a i b j before
+  pub found-merge : bothSound ≡ true → bothThere ≡ true → mergeDays (dayPart a i) (dayPart b j) before ≡ mergeFirst a i b j before
   unfolding mergeFirst mergeDays
-  both-found h g there here = rw (h, g, lt-ltb i (dayCount a) there, lt-ltb j (dayCount b) here)
+  found-merge h g = rw (both-first (soundTrace a) (soundTrace b), h, both-first (ltb i (dayCount a)) (ltb j (dayCount b)), g)
 
 module _ (xs ys before : List ℕ) where
-  pub first-order : mergeable (recordsOf xs) ≡ false → outcomeOf (refused 16) before ≡ mergeDays xs ys before
-  unfolding mergeDays
-  first-order h = rw h
+  abbrev bothOrdered : Bool
+  bothOrdered = mergeable (recordsOf xs) && mergeable (recordsOf ys)
 
-  pub second-order : mergeable (recordsOf xs) ≡ true → mergeable (recordsOf ys) ≡ false → outcomeOf (refused 16) before ≡ mergeDays xs ys before
-  unfolding mergeDays
-  second-order h g = rw (h, g)
+  abbrev fitting : Bool
+  fitting = eqb (length before) (length xs + length ys)
 
-  pub other-length : mergeable (recordsOf xs) ≡ true → mergeable (recordsOf ys) ≡ true → (length before ≡ length xs + length ys → ⊥)
-      → outcomeOf (refused 17) before ≡ mergeDays xs ys before
+  pub unordered-days : bothOrdered ≡ false → outcomeOf (refused 16) before ≡ mergeDays xs ys before
   unfolding mergeDays
-  other-length h g apart = rw (h, g, ne-eqb (length before) (length xs + length ys) apart)
+  unordered-days h = rw (both-first (mergeable (recordsOf xs)) (mergeable (recordsOf ys)), h)
 
-  pub days-merged : mergeable (recordsOf xs) ≡ true → mergeable (recordsOf ys) ≡ true → length before ≡ length xs + length ys
-      → outcomeOf (accepted []) (mergedWords xs ys) ≡ mergeDays xs ys before
+  pub other-length : bothOrdered ≡ true → fitting ≡ false → outcomeOf (refused 17) before ≡ mergeDays xs ys before
   unfolding mergeDays
-  days-merged h g size = rw (h, g, eq-eqb (length before) (length xs + length ys) size)
+  other-length h g = rw (both-first (mergeable (recordsOf xs)) (mergeable (recordsOf ys)), h, g)
+
+  pub days-merged : bothOrdered ≡ true → fitting ≡ true → outcomeOf (accepted []) (mergedWords xs ys) ≡ mergeDays xs ys before
+  unfolding mergeDays
+  days-merged h g = rw (both-first (mergeable (recordsOf xs)) (mergeable (recordsOf ys)), h, g)
 
 -- ---- both days are there, each in its order
 

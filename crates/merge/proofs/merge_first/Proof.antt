@@ -1,104 +1,113 @@
 -- Each way out of the tests is one case of the definition; else the two days that were found are merged.
-use native.Mathlib.Omega.{arith}
 use borrow.Author.Needs.{needs}
-use borrow.Author.Tests.{not-true, not-false}
-use mathlib.Core.Bool.{true}
+use borrow.Author.Tests.{not-true, not-false, ltb-true}
+use mathlib.Core.Bool.{true, _&&_}
 use mathlib.Core.List.{List}
 use mathlib.Core.Path.{_≡_, sym, ap₂, subst, _∙_}
-use Prim.Native.Nat.{ℕ}
-use Rattle.model.specs.Trace.{soundDay, soundTrace}
+use Prim.Native.Nat.{ℕ, _<_}
+use lib.Dec.{ltb}
+use Rattle.shape.specs.LimitsLaws.{both}
+use Rattle.model.specs.Trace.{dayCount, soundDay, soundTrace}
 use Rattle.model.specs.Reply.{replyOf}
-use Rattle.trace.specs.TraceLaws.{sound-facts, day-sound}
-use Rattle.merge_laws.specs.FirstNamed.{mergeDays, first-unsound, second-unsound, first-missing, second-missing, both-found}
+use Rattle.trace.specs.TraceLaws.{day-sound}
+use Rattle.merge_laws.specs.FirstNamed.{mergeDays, unsound-merge, missing-merge, found-merge}
 use Rattle.merge.proofs.merge_first.Statement.{statement}
 use Rattle.merge.proofs.merge_first.Tie as tie
 
--- the traces that passed the test
-sound : (c : tie.Else2) → let a = c .before .before .before .before .before .before .before .args in (soundTrace (a .first .now) ≡ true) × (soundTrace (a .second .now) ≡ true)
-sound c = (sym (c .before .before .before .is-sound-trace .ensures) ∙ not-false _ (c .before .before .if1 .left), sym (c .before .is-sound-trace2 .ensures) ∙ not-false _ (c .if2 .left))
+-- the test of both traces, and that of both days' numbers
+sound : (c : tie.After-both) → let a = c .before .before .before .before .before .before .args in c .both .result ≡ (soundTrace (a .first .now) && soundTrace (a .second .now))
+sound c = c .both .ensures ∙ ap₂ _&&_ (c .before .before .is-sound-trace .ensures) (c .before .is-sound-trace2 .ensures)
+
+there : (c : tie.After-both2) → let a = c .before .before .before .before .before .before .before .before .before .args in
+    c .both2 .result ≡ (ltb (a .i) (dayCount (a .first .now)) && ltb (a .j) (dayCount (a .second .now)))
+there c = c .both2 .ensures ∙ ap₂ _&&_ (c .before .before .has-day .ensures) (c .before .has-day2 .ensures)
+
+-- what both tests tell of either side
+pub record Found (a : List ℕ) (i : ℕ) : Type 0 where
+  pub trace : soundTrace a ≡ true
+  pub day : i < dayCount a
+
+found : (c : tie.Else2) → let a = c .before .before .before .before .before .before .before .before .before .before .before .args in Found (a .first .now) (a .i) × Found (a .second .now) (a .j)
+found c =
+    let t = c .before .before in
+    let a = t .before .before .before .before .before .before .before .before .before .args in
+    let p = both {a = soundTrace (a .first .now)} (sym (sound (t .before .before .before)) ∙ not-false _ (c .before .if1 .left)) in
+    let q = both {a = ltb (a .i) (dayCount (a .first .now))} (sym (there t) ∙ not-false _ (c .if2 .left)) in
+    (record { trace = p .0; day = ltb-true _ _ (q .0) }, record { trace = p .1; day = ltb-true _ _ (q .1) })
 
 is-sound-trace-requires : tie.Need-is-sound-trace-requires
 is-sound-trace-requires c κs = search needs
 
+is-sound-trace-requires-2 : tie.Need-is-sound-trace-requires-2
+is-sound-trace-requires-2 c κs = search needs
+
+both-requires : tie.Need-both-requires
+both-requires c κs = search needs
+
+has-day-requires : tie.Need-has-day-requires
+has-day-requires c κs = search needs
+
+has-day-requires-2 : tie.Need-has-day-requires-2
+has-day-requires-2 c κs = search needs
+
+both-requires-2 : tie.Need-both-requires-2
+both-requires-2 c κs = search needs
+
 returns : tie.Need-returns
 unfolding replyOf
 returns c =
-    let a = c .before .before .before .before .before .args in
-    first-unsound (a .first .now) (a .i) (a .second .now) (a .j) (a .out .now) (sym (c .before .is-sound-trace .ensures) ∙ not-true _ (c .if1 .taken))
-
-is-sound-trace-requires-2 : tie.Need-is-sound-trace-requires-2
-is-sound-trace-requires-2 c κs = search needs
+    let t = c .before in
+    let a = t .before .before .before .before .before .before .before .before .before .args in
+    unsound-merge (a .first .now) (a .i) (a .second .now) (a .j) (a .out .now) (sym (sound (t .before .before .before)) ∙ not-true _ (c .if1 .taken))
 
 returns-2 : tie.Need-returns-2
 unfolding replyOf
 returns-2 c =
-    let f = c .before .before in
-    let a = f .before .before .before .before .before .args in
-    second-unsound (a .first .now) (a .i) (a .second .now) (a .j) (a .out .now) (sym (f .before .is-sound-trace .ensures) ∙ not-false _ (f .if1 .left))
-    (sym (c .before .is-sound-trace2 .ensures) ∙ not-true _ (c .if2 .taken))
-
-shared-slice-read-if3 : tie.Need-shared-slice-read-if3
-shared-slice-read-if3 c = let s = sound-facts _ (sound (c .before) .0) in omega (arith, s .some)
-
-returns-3 : tie.Need-returns-3
-unfolding replyOf
-returns-3 c =
-    let s = c .before .before in
-    let a = s .before .before .before .before .before .before .before .args in
-    first-missing (a .first .now) (a .i) (a .second .now) (a .j) (a .out .now) (sound s .0) (sound s .1) (c .if3 .taken)
-
-shared-slice-read-if4 : tie.Need-shared-slice-read-if4
-shared-slice-read-if4 c = let s = sound-facts _ (sound (c .before .before .before) .1) in omega (arith, s .some)
-
-returns-4 : tie.Need-returns-4
-unfolding replyOf
-returns-4 c =
-    let s = c .before .before .before .before in
-    let a = s .before .before .before .before .before .before .before .args in
-    second-missing (a .first .now) (a .i) (a .second .now) (a .j) (a .out .now) (sound s .0) (sound s .1) (c .before .before .if3 .left) (c .if4 .taken)
+    let t = c .before .before in
+    let a = t .before .before .before .before .before .before .before .before .before .args in
+    missing-merge (a .first .now) (a .i) (a .second .now) (a .j) (a .out .now) (sym (sound (t .before .before .before)) ∙ not-false _ (c .before .if1 .left)) (sym (there t) ∙ not-true _ (c .if2 .taken))
 
 day-part-requires : tie.Need-day-part-requires
-day-part-requires c κs = (sound (c .before .before .before .before) .0, c .before .before .if3 .left)
+day-part-requires c κs = (found c .0 .trace, found c .0 .day)
 
 day-part-requires-2 : tie.Need-day-part-requires-2
-day-part-requires-2 c κs = (sound (c .before .before .before .before .before) .1, c .before .if4 .left)
+day-part-requires-2 c κs = (found (c .before) .1 .trace, found (c .before) .1 .day)
 
 merge-days-requires : tie.Need-merge-days-requires
 merge-days-requires c κs =
-    let t = c .before .before .before in
-    let s = t .before .before .before .before in
-    let a = s .before .before .before .before .before .before .before .args in (
-      subst (λ (z : List ℕ). soundDay z ≡ true) (sym (c .before .before .day-part .ensures)) (day-sound (a .first .now) (a .i) (sound s .0) (t .before .before .if3 .left)),
-      subst (λ (z : List ℕ). soundDay z ≡ true) (sym (c .before .day-part2 .ensures)) (day-sound (a .second .now) (a .j) (sound s .1) (t .if4 .left)),
+    let e = c .before .before .before in
+    let f = found e in (
+      subst (λ (z : List ℕ). soundDay z ≡ true) (sym (c .before .before .day-part .ensures)) (day-sound _ _ (f .0 .trace) (f .0 .day)),
+      subst (λ (z : List ℕ). soundDay z ≡ true) (sym (c .before .day-part2 .ensures)) (day-sound _ _ (f .1 .trace) (f .1 .day)),
     )
 
 same-length : tie.Need-same-length
 same-length c = search needs
 
-returns-5 : tie.Need-returns-5
-returns-5 c =
+returns-3 : tie.Need-returns-3
+returns-3 c =
     let k = c .before .before in
     let p = k .before .before in
-    let t = p .before .before in
-    let s = t .before .before .before .before in
-    let a = s .before .before .before .before .before .before .before .args in
+    let e = p .before .before in
+    let t = e .before .before in
+    let a = t .before .before .before .before .before .before .before .before .before .args in
     k .merge-days .ensures ∙ ap₂ (λ (x y : List ℕ). mergeDays x y (a .out .now)) (p .before .day-part .ensures) (p .day-part2 .ensures)
-    ∙ both-found (a .first .now) (a .i) (a .second .now) (a .j) (a .out .now) (sound s .0) (sound s .1) (t .before .before .if3 .left) (t .if4 .left)
+    ∙ found-merge (a .first .now) (a .i) (a .second .now) (a .j) (a .out .now) (sym (sound (t .before .before .before)) ∙ not-false _ (e .before .if1 .left)) (sym (there t) ∙ not-false _ (e .if2 .left))
 
 pub merge-first-spec : {M : Type 1} → statement M
 merge-first-spec =
     tie.close
     (tie.spec
     is-sound-trace-requires
-    returns
     is-sound-trace-requires-2
+    both-requires
+    has-day-requires
+    has-day-requires-2
+    both-requires-2
+    returns
     returns-2
-    shared-slice-read-if3
-    returns-3
-    shared-slice-read-if4
-    returns-4
     day-part-requires
     day-part-requires-2
     merge-days-requires
     same-length
-    returns-5)
+    returns-3)

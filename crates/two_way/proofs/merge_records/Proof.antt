@@ -5,8 +5,8 @@ use mathlib.Core.Path.{_≡_, refl, sym, _∙_}
 use Prim.Native.Nat.{_+_, _-_, _≤_}
 use lib.ListN.{length}
 use Rattle.merge_laws.specs.Merging.{Merging, merging-start, merging-end}
-use Rattle.merge.proofs.merge_records.Statement.{statement}
-use Rattle.merge.proofs.merge_records.Tie as tie
+use Rattle.two_way.proofs.merge_records.Statement.{statement}
+use Rattle.two_way.proofs.merge_records.Tie as tie
 
 abbrev Inv-loop : tie.InvT-loop
 Inv-loop a b out₀ count p₀ to₀ out p to =

@@ -2,8 +2,8 @@
 use borrow.Author.Needs.{needs}
 use lib.ListN.{length-set}
 use Rattle.merge_laws.specs.Merging.{take-record}
-use Rattle.merge.proofs.put_record.Statement.{statement}
-use Rattle.merge.proofs.put_record.Tie as tie
+use Rattle.two_way.proofs.put_record.Statement.{statement}
+use Rattle.two_way.proofs.put_record.Tie as tie
 
 mul-at : tie.Need-mul-at
 mul-at c = search needs

@@ -2,8 +2,8 @@
 use borrow.Author.Needs.{needs}
 use borrow.Author.Tests.{le-leb, lt-leb}
 use Rattle.merge_laws.specs.Merging.{firstNext}
-use Rattle.merge.proofs.takes_first.Statement.{statement}
-use Rattle.merge.proofs.takes_first.Tie as tie
+use Rattle.two_way.proofs.takes_first.Statement.{statement}
+use Rattle.two_way.proofs.takes_first.Tie as tie
 
 returns : tie.Need-returns
 unfolding firstNext

@@ -9,8 +9,8 @@ use Rattle.model.specs.Trace.{recordWords}
 use Rattle.model.specs.Merge.{clockAfter}
 use Rattle.merge_laws.specs.FirstNamed.{recordPart}
 use Rattle.merge_laws.specs.Merging.{Merging, first-written, second-written, first-there, second-there, counts-add}
-use Rattle.merge.proofs.take_next.Statement.{statement}
-use Rattle.merge.proofs.take_next.Tie as tie
+use Rattle.two_way.proofs.take_next.Statement.{statement}
+use Rattle.two_way.proofs.take_next.Tie as tie
 
 add-to : tie.Need-add-to
 add-to c = search needs

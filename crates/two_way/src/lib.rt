@@ -12,31 +12,27 @@ ghost use Rattle.days.specs.Records.{recordCount};
 ghost use Rattle.merge_laws.specs.FirstNamed.{recordPart, mergedWords};
 ghost use Rattle.merge_laws.specs.Merging.{firstNext, Merging};
 
-// How many records of a day are taken, and the clock of the last one.
-pub struct Cursor {
-    pub at: usize,
-    pub clock: u32,
-}
-
-// Where the merge stands in either day.
-pub struct Cursors {
-    pub first: Cursor,
-    pub second: Cursor,
+// Where the merge stands: i records of the first day are taken, the last of them at clock c, and j of the second, the last at clock d.
+pub struct Place {
+    pub i: usize,
+    pub c: u32,
+    pub j: usize,
+    pub d: u32,
 }
 
 // Whether the next record is one of the first day. At equal clock it is.
-fn takes_first(a: &[u32], x: Cursor, b: &[u32], y: Cursor) -> bool
-    ensures { λ r. ⌜ r ≡ firstNext (now (a .entry)) (x .at) (x .clock) (now (b .entry)) (y .at) (y .clock) ⌝ }
+fn takes_first(a: &[u32], b: &[u32], p: Place) -> bool
+    ensures { λ r. ⌜ r ≡ firstNext (now (a .entry)) (p .i) (p .c) (now (b .entry)) (p .j) (p .d) ⌝ }
 {
-    let i = x.at;
-    let j = y.at;
+    let i = p.i;
+    let j = p.j;
     if a.len() / RECORD_WORDS <= i {
         return false;
     }
     if b.len() / RECORD_WORDS <= j {
         return true;
     }
-    clock_after(x.clock, record_at(a, i)) <= clock_after(y.clock, record_at(b, j))
+    clock_after(p.c, record_at(a, i)) <= clock_after(p.d, record_at(b, j))
 }
 
 // Writes a record after `to` others.
@@ -52,36 +48,30 @@ fn put_record(out: &mut [u32], to: usize, it: Record)
 }
 
 // Writes the next record.
-fn take_next(a: &[u32], b: &[u32], p: Cursors, out: &mut [u32]) -> Cursors
-    requires { ⌜ Merging (now a) (now b) (p .first .at) (p .first .clock) (p .second .at) (p .second .clock) (now out) × (p .first .at + p .second .at < recordCount (now out)) ⌝ }
-    ensures { λ r. ⌜ Merging (now (a .entry)) (now (b .entry)) (r .first .at) (r .first .clock) (r .second .at) (r .second .clock) (now (out .exit)) × (r .first .at + r .second .at ≡ p .first .at + p .second .at + 1) ⌝ }
+fn take_next(a: &[u32], b: &[u32], p: Place, out: &mut [u32]) -> Place
+    requires { ⌜ Merging (now a) (now b) (p .i) (p .c) (p .j) (p .d) (now out) × (p .i + p .j < recordCount (now out)) ⌝ }
+    ensures { λ r. ⌜ Merging (now (a .entry)) (now (b .entry)) (r .i) (r .c) (r .j) (r .d) (now (out .exit)) × (r .i + r .j ≡ p .i + p .j + 1) ⌝ }
 {
-    let x = p.first;
-    let y = p.second;
-    let i = x.at;
-    let j = y.at;
+    let i = p.i;
+    let j = p.j;
     let to = i + j;
-    if takes_first(a, x, b, y) {
+    if takes_first(a, b, p) {
         let it = record_at(a, i);
         put_record(out, to, it);
-        let next = Cursor {
-            at: i + 1,
-            clock: clock_after(x.clock, it),
-        };
-        return Cursors {
-            first: next,
-            second: y,
+        return Place {
+            i: i + 1,
+            c: clock_after(p.c, it),
+            j: j,
+            d: p.d,
         };
     }
     let it = record_at(b, j);
     put_record(out, to, it);
-    let next = Cursor {
-        at: j + 1,
-        clock: clock_after(y.clock, it),
-    };
-    Cursors {
-        first: x,
-        second: next,
+    Place {
+        i: i,
+        c: p.c,
+        j: j + 1,
+        d: clock_after(p.d, it),
     }
 }
 
@@ -91,10 +81,11 @@ pub fn merge_records(a: &[u32], b: &[u32], out: &mut [u32])
     ensures { λ _. ⌜ now (out .exit) ≡ mergedWords (now (a .entry)) (now (b .entry)) ⌝ }
 {
     let count = out.len() / RECORD_WORDS;
-    let start = Cursor { at: 0, clock: 0 };
-    let mut p = Cursors {
-        first: start,
-        second: start,
+    let mut p = Place {
+        i: 0,
+        c: 0,
+        j: 0,
+        d: 0,
     };
     let mut to: usize = 0;
     while to < count {

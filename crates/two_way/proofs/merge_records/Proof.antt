@@ -10,7 +10,7 @@ use Rattle.two_way.proofs.merge_records.Tie as tie
 
 abbrev Inv-loop : tie.InvT-loop
 Inv-loop a b out₀ count p₀ to₀ out p to =
-    Merging a b (p .first .at) (p .first .clock) (p .second .at) (p .second .clock) out × (p .first .at + p .second .at ≡ to) × (to ≤ count) × (length out ≡ length out₀)
+    Merging a b (p .i) (p .c) (p .j) (p .d) out × (p .i + p .j ≡ to) × (to ≤ count) × (length out ≡ length out₀)
 
 abbrev μ-loop : tie.MeasureT-loop
 μ-loop a b out₀ count p₀ to₀ out p to = count - to
@@ -44,7 +44,7 @@ returns c =
     let l = c .before in
     let a = l .before .before .before .before .args in
     let p = l .loop .p in
-    merging-end (a .a .now) (a .b .now) (p .first .at) (p .first .clock) (p .second .at) (p .second .clock) (l .loop .out) (l .loop .inv .0)
+    merging-end (a .a .now) (a .b .now) (p .i) (p .c) (p .j) (p .d) (l .loop .out) (l .loop .inv .0)
     (omega (arith, c .loop-test .left, l .loop .inv .1, l .loop .inv .3))
 
 pub merge-records-spec : {M : Type 1} → statement M

@@ -22,19 +22,6 @@ there : (c : tie.After-both2) → let a = c .before .before .before .before .bef
     c .both2 .result ≡ (ltb (a .i) (dayCount (a .first .now)) && ltb (a .j) (dayCount (a .second .now)))
 there c = c .both2 .ensures ∙ ap₂ _&&_ (c .before .before .has-day .ensures) (c .before .has-day2 .ensures)
 
--- what both tests tell of either side
-pub record Found (a : List ℕ) (i : ℕ) : Type 0 where
-  pub trace : soundTrace a ≡ true
-  pub day : i < dayCount a
-
-found : (c : tie.Else2) → let a = c .before .before .before .before .before .before .before .before .before .before .before .args in Found (a .first .now) (a .i) × Found (a .second .now) (a .j)
-found c =
-    let t = c .before .before in
-    let a = t .before .before .before .before .before .before .before .before .before .args in
-    let p = both {a = soundTrace (a .first .now)} (sym (sound (t .before .before .before)) ∙ not-false _ (c .before .if1 .left)) in
-    let q = both {a = ltb (a .i) (dayCount (a .first .now))} (sym (there t) ∙ not-false _ (c .if2 .left)) in
-    (record { trace = p .0; day = ltb-true _ _ (q .0) }, record { trace = p .1; day = ltb-true _ _ (q .1) })
-
 is-sound-trace-requires : tie.Need-is-sound-trace-requires
 is-sound-trace-requires c κs = search needs
 
@@ -66,6 +53,19 @@ returns-2 c =
     let t = c .before .before in
     let a = t .before .before .before .before .before .before .before .before .before .args in
     missing-merge (a .first .now) (a .i) (a .second .now) (a .j) (a .out .now) (sym (sound (t .before .before .before)) ∙ not-false _ (c .before .if1 .left)) (sym (there t) ∙ not-true _ (c .if2 .taken))
+
+-- what both tests tell of either side
+pub record Found (a : List ℕ) (i : ℕ) : Type 0 where
+  pub trace : soundTrace a ≡ true
+  pub day : i < dayCount a
+
+found : (c : tie.Else2) → let a = c .before .before .before .before .before .before .before .before .before .before .before .args in Found (a .first .now) (a .i) × Found (a .second .now) (a .j)
+found c =
+    let t = c .before .before in
+    let a = t .before .before .before .before .before .before .before .before .before .args in
+    let p = both {a = soundTrace (a .first .now)} (sym (sound (t .before .before .before)) ∙ not-false _ (c .before .if1 .left)) in
+    let q = both {a = ltb (a .i) (dayCount (a .first .now))} (sym (there t) ∙ not-false _ (c .if2 .left)) in
+    (record { trace = p .0; day = ltb-true _ _ (q .0) }, record { trace = p .1; day = ltb-true _ _ (q .1) })
 
 day-part-requires : tie.Need-day-part-requires
 day-part-requires c κs = (found c .0 .trace, found c .0 .day)

@@ -37,7 +37,7 @@ returns-2 c =
     let n = c .before .before in
     let l = n .before .before .before in
     let is = n .clock-after .ensures ∙ ap (clockAfter (l .loop .clock)) (n .before .record-at .ensures) in
-    sym (orderly-passes (l .before .before .args .day .now) (l .loop .i) (l .loop .clock) _ (n .before .before .loop-test .taken) is (c .if2 .taken)) ∙ l .loop .inv .1
+    sym (orderly-passes (l .before .before .args .day .now) (l .loop .i) (l .loop .clock) _ (n .before .before .loop-test .taken) is (omega (arith, c .if2 .taken))) ∙ l .loop .inv .1
 
 add-i : tie.Need-add-i Inv-loop μ-loop
 add-i c = search needs

@@ -179,8 +179,9 @@ uint32_t litres_replay(uint32_t *book, size_t len, const uint32_t *trace, size_t
  * comes first among records of equal clock is undecided: do not rely on what this version does. A
  * day may be empty, and a day may be merged with itself.
  * Only records are written. With the words 1, 3 and out_len before them they are a trace of which
- * the merged day is the only one, as long as out_len is below 2^32. Replayed on a sound book whose
- * clock is not past the day's first, each record meets the clock that it had in its own day.
+ * the merged day is the only one, as long as out_len is below 2^32. Replayed on a book that is not
+ * damaged and whose clock is not past the day's first, each record meets the clock that it had in
+ * its own day.
  * Refused, in this order: 13 (for either trace; any record of any day counts), 14 (for either), 16
  * (for either day; other days do not count), 17.
  */

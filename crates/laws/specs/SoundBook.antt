@@ -155,7 +155,7 @@ module _ (ws : List ℕ) (b : SoundBook ws) where
           refl,
         )
 
-  -- the clock after a call: an accepted make's is 0, an accepted clock's its own, and all other calls leave it
+  -- the clock after an accepted call: 0 after a make, its own after a clock, the one before after any other
   abbrev pub clockBy : Call → ℕ
   clockBy (Make k n m g) = 0
   clockBy (Clock to) = to

@@ -20,7 +20,7 @@ ghost use Rattle.model.specs.Trace.{soundDay, dayCount, dayPart, soundTrace};
 ghost use Rattle.model.specs.Merge.{Merges};
 ghost use Rattle.merge_laws.specs.FirstNamed.{mergeDays, mergeFirst};
 
-// Whether x and y together make up the sum, which might not fit a word if it were formed.
+// Whether x and y make up the sum. It is not formed, since it might not fit a usize.
 fn is_sum(sum: usize, x: usize, y: usize) -> bool
     ensures { λ r. ⌜ r ≡ eqb sum (x + y) ⌝ }
 {
@@ -80,7 +80,7 @@ fn merge_first(first: &[u32], i: u32, second: &[u32], j: u32, out: &mut [u32]) -
     merge_days(day_part(first, i), day_part(second, j), out)
 }
 
-// Writes a merged day of a day of either trace. In which order records of equal clock stand is undecided.
+// Writes a merged day of a day of each trace. In which order records of equal clock stand is undecided.
 pub fn merge(first: &[u32], i: u32, second: &[u32], j: u32, out: &mut [u32]) -> Answer
     ensures { λ r. ⌜ Merges (now (first .entry)) i (now (second .entry)) j (now (out .entry)) (replyOf r) (now (out .exit)) ⌝ }
 {

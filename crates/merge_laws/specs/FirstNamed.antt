@@ -16,7 +16,7 @@ use Rattle.model.specs.Block.{upFrom}
 use Rattle.model.specs.Words.{join}
 use Rattle.model.specs.Calls.{firstOf, Outcome, outcomeOf, settle}
 use Rattle.model.specs.Trace.{recordWords, recordAt, recordsOf, dayCount, dayPart, soundTrace}
-use Rattle.model.specs.Merge.{Timed, timed, firsts, seconds, climbs, unmarked, Merged, mergeable, mergeRefusals, Merges}
+use Rattle.model.specs.Merge.{AtClock, timed, firsts, seconds, climbs, unmarked, Merged, mergeable, mergeRefusals, Merges}
 use Rattle.laws.specs.Cond.{and-true, eq-or-ne}
 use Rattle.laws.specs.Refusals.{settle-accepted, settle-refused}
 use Rattle.merge_laws.specs.AcceptedMerge.{accepted-merge}
@@ -24,18 +24,18 @@ use Rattle.merge_laws.specs.MergedDay.{heldOf, mergeable-climbs}
 
 -- ---- the definition
 
-abbrev pub mergeBefore : Timed → (List Timed → List (Bool × Timed)) → List Timed → List (Bool × Timed)  -- x and then the rest of its day; of the second day's records those of an earlier clock stand before x
+abbrev pub mergeBefore : AtClock → (List AtClock → List (Bool × AtClock)) → List AtClock → List (Bool × AtClock)  -- x and then the rest of its day; of the second day's records those of an earlier clock stand before x
 mergeBefore x rest [] = (true, x) ∷ rest []
 mergeBefore x rest (y ∷ ys) = cond (leb (x .clock) (y .clock)) ((true, x) ∷ rest (y ∷ ys)) ((false, y) ∷ mergeBefore x rest ys)
 
-abbrev pub mergeTimed : List Timed → List Timed → List (Bool × Timed)
+abbrev pub mergeTimed : List AtClock → List AtClock → List (Bool × AtClock)
 mergeTimed [] ys = map (λ y. (false, y)) ys
 mergeTimed (x ∷ xs) ys = mergeBefore x (mergeTimed xs) ys
 
 abbrev pub recordPart : Record → List ℕ  -- the words of a record
 recordPart r = r .kind ∷ r .first ∷ r .second ∷ r .third ∷ []
 
-abbrev pub mergePart : List Timed → List Timed → List ℕ  -- the words of what is left of two days
+abbrev pub mergePart : List AtClock → List AtClock → List ℕ  -- the words of what is left of two days
 mergePart xs ys = join (map recordPart (heldOf (unmarked (mergeTimed xs ys))))
 
 unfoldable pub mergedWords : List ℕ → List ℕ → List ℕ  -- the words of two days merged
@@ -98,40 +98,40 @@ module _ (xs ys before : List ℕ) where
 
 -- ---- both days are there, each in its order
 
-firsts-second : (ys : List Timed) → firsts (map (λ y. (false, y)) ys) ≡ []
+firsts-second : (ys : List AtClock) → firsts (map (λ y. (false, y)) ys) ≡ []
 firsts-second [] = refl
 firsts-second (y ∷ ys) = firsts-second ys
 
-seconds-second : (ys : List Timed) → seconds (map (λ y. (false, y)) ys) ≡ ys
+seconds-second : (ys : List AtClock) → seconds (map (λ y. (false, y)) ys) ≡ ys
 seconds-second [] = refl
-seconds-second (y ∷ ys) = ap (λ (z : List Timed). y ∷ z) (seconds-second ys)
+seconds-second (y ∷ ys) = ap (λ (z : List AtClock). y ∷ z) (seconds-second ys)
 
-abbrev Parts : List Timed → (List Timed → List (Bool × Timed)) → Type 0
-Parts xs merge = (ys : List Timed) → (firsts (merge ys) ≡ xs) × (seconds (merge ys) ≡ ys)
+abbrev KeepsBoth : List AtClock → (List AtClock → List (Bool × AtClock)) → Type 0
+KeepsBoth xs merge = (ys : List AtClock) → (firsts (merge ys) ≡ xs) × (seconds (merge ys) ≡ ys)
 
-before-parts : (x : Timed) (xs : List Timed) (rest : List Timed → List (Bool × Timed)) → Parts xs rest → Parts (x ∷ xs) (mergeBefore x rest)
-before-parts x xs rest parts [] = let r = parts [] in (ap (λ (z : List Timed). x ∷ z) (r .0), r .1)
+before-parts : (x : AtClock) (xs : List AtClock) (rest : List AtClock → List (Bool × AtClock)) → KeepsBoth xs rest → KeepsBoth (x ∷ xs) (mergeBefore x rest)
+before-parts x xs rest parts [] = let r = parts [] in (ap (λ (z : List AtClock). x ∷ z) (r .0), r .1)
 before-parts x xs rest parts (y ∷ ys) = go (leb (x .clock) (y .clock)) (parts (y ∷ ys)) (before-parts x xs rest parts ys)
   where
     go : (t : Bool) → (firsts (rest (y ∷ ys)) ≡ xs) × (seconds (rest (y ∷ ys)) ≡ y ∷ ys) → (firsts (mergeBefore x rest ys) ≡ x ∷ xs) × (seconds (mergeBefore x rest ys) ≡ ys)
         → let m = cond t ((true, x) ∷ rest (y ∷ ys)) ((false, y) ∷ mergeBefore x rest ys) in (firsts m ≡ x ∷ xs) × (seconds m ≡ y ∷ ys)
-    go true r q = (ap (λ (z : List Timed). x ∷ z) (r .0), r .1)
-    go false r q = (q .0, ap (λ (z : List Timed). y ∷ z) (q .1))
+    go true r q = (ap (λ (z : List AtClock). x ∷ z) (r .0), r .1)
+    go false r q = (q .0, ap (λ (z : List AtClock). y ∷ z) (q .1))
 
-merge-parts : (xs : List Timed) → Parts xs (mergeTimed xs)
+merge-parts : (xs : List AtClock) → KeepsBoth xs (mergeTimed xs)
 merge-parts [] ys = (firsts-second ys, seconds-second ys)
 merge-parts (x ∷ xs) ys = before-parts x xs (mergeTimed xs) (merge-parts xs) ys
 
 -- ---- clocks never fall
 
-unmarked-second : (ys : List Timed) → unmarked (map (λ y. (false, y)) ys) ≡ ys
+unmarked-second : (ys : List AtClock) → unmarked (map (λ y. (false, y)) ys) ≡ ys
 unmarked-second [] = refl
-unmarked-second (y ∷ ys) = ap (λ (z : List Timed). y ∷ z) (unmarked-second ys)
+unmarked-second (y ∷ ys) = ap (λ (z : List AtClock). y ∷ z) (unmarked-second ys)
 
-abbrev Climbs : List Timed → (List Timed → List (Bool × Timed)) → Type 0
-Climbs xs merge = (c : ℕ) (ys : List Timed) → climbs c xs ≡ true → climbs c ys ≡ true → climbs c (unmarked (merge ys)) ≡ true
+abbrev KeepsClimbing : List AtClock → (List AtClock → List (Bool × AtClock)) → Type 0
+KeepsClimbing xs merge = (c : ℕ) (ys : List AtClock) → climbs c xs ≡ true → climbs c ys ≡ true → climbs c (unmarked (merge ys)) ≡ true
 
-before-climbs : (x : Timed) (xs : List Timed) (rest : List Timed → List (Bool × Timed)) → Climbs xs rest → Climbs (x ∷ xs) (mergeBefore x rest)
+before-climbs : (x : AtClock) (xs : List AtClock) (rest : List AtClock → List (Bool × AtClock)) → KeepsClimbing xs rest → KeepsClimbing (x ∷ xs) (mergeBefore x rest)
 before-climbs x xs rest climb c [] h q = let p = both {a = leb c (x .clock)} h in and-true (p .0) (climb (x .clock) [] (p .1) refl)
 before-climbs x xs rest climb c (y ∷ ys) h q =
     go (leb (x .clock) (y .clock)) refl (before-climbs x xs rest climb (y .clock) ys)
@@ -149,7 +149,7 @@ before-climbs x xs rest climb c (y ∷ ys) h q =
         let under = leb-false (x .clock) (y .clock) e in
         and-true (r .0) (again (and-true (le-leb (y .clock) (x .clock) (omega arith)) (p .1)) (r .1))
 
-merge-climbs : (xs : List Timed) → Climbs xs (mergeTimed xs)
+merge-climbs : (xs : List AtClock) → KeepsClimbing xs (mergeTimed xs)
 merge-climbs [] c ys h q = rw (unmarked-second ys) q
 merge-climbs (x ∷ xs) c ys h q = before-climbs x xs (mergeTimed xs) (merge-climbs xs) c ys h q
 

@@ -91,5 +91,5 @@ home-clocks a i b j before reply after merge done ws sound notPast answers room 
       played = only-played after ws answers trace room;
       calls = only-calls after ws answers trace room;
       met = meets .0 ∙ ap (map (λ t. t .clock)) (merged-home xs ys out m);
-      passed = meets .1;
+      own = meets .1;
     }

@@ -12,26 +12,26 @@ use Rattle.shape.specs.LimitsLaws.{both}
 use Rattle.model.specs.declared.Record.{Record}
 use Rattle.model.specs.Sound.{maxClock}
 use Rattle.model.specs.Claim.{Each}
-use Rattle.model.specs.Merge.{Timed, Merged, isClock, clockAfter, timed, opensWithClock, orderly, mergeable, firsts, seconds, climbs, unmarked}
+use Rattle.model.specs.Merge.{AtClock, Merged, isClock, clockAfter, timed, opensWithClock, orderly, mergeable, firsts, seconds, climbs, unmarked}
 use Rattle.laws.specs.Cond.{and-true}
 
-abbrev pub heldOf : List Timed → List Record  -- records without their clocks
+abbrev pub heldOf : List AtClock → List Record  -- records without their clocks
 heldOf = map (λ t. t .held)
 
 -- ---- lists of records with clocks
 
-abbrev headOr : Timed → List Timed → Timed
+abbrev headOr : AtClock → List AtClock → AtClock
 headOr d [] = d
 headOr d (t ∷ ts) = t
 
-abbrev tailOf : List Timed → List Timed
+abbrev tailOf : List AtClock → List AtClock
 tailOf [] = []
 tailOf (t ∷ ts) = ts
 
-none : (t : Timed) (ts : List Timed) → t ∷ ts ≡ [] → ⊥
-none t ts e = subst (λ (z : List Timed). full z) e tt
+none : (t : AtClock) (ts : List AtClock) → t ∷ ts ≡ [] → ⊥
+none t ts e = subst (λ (z : List AtClock). full z) e tt
   where
-    full : List Timed → Type 0
+    full : List AtClock → Type 0
     full [] = ⊥
     full (t ∷ ts) = Unit {0}
 
@@ -40,16 +40,16 @@ held-timed c [] = refl
 held-timed c (r ∷ rs) = ap (λ (z : List Record). r ∷ z) (held-timed (clockAfter c r) rs)
 
 -- what holds of each record of both days holds of each marked one
-each-marked : (P : Timed → Type 0) (ms : List (Bool × Timed)) → Each P (firsts ms) → Each P (seconds ms) → Each P (unmarked ms)
+each-marked : (P : AtClock → Type 0) (ms : List (Bool × AtClock)) → Each P (firsts ms) → Each P (seconds ms) → Each P (unmarked ms)
 each-marked P [] f s = tt
 each-marked P ((true, t) ∷ ms) f s = (f .0, each-marked P ms (f .1) s)
 each-marked P ((false, t) ∷ ms) f s = (s .0, each-marked P ms f (s .1))
 
-each-held : (P : Record → Type 0) (ts : List Timed) → Each P (heldOf ts) → Each (λ t. P (t .held)) ts
+each-held : (P : Record → Type 0) (ts : List AtClock) → Each P (heldOf ts) → Each (λ t. P (t .held)) ts
 each-held P [] h = tt
 each-held P (t ∷ ts) h = (h .0, each-held P ts (h .1))
 
-held-each : (P : Record → Type 0) (ts : List Timed) → Each (λ t. P (t .held)) ts → Each P (heldOf ts)
+held-each : (P : Record → Type 0) (ts : List AtClock) → Each (λ t. P (t .held)) ts → Each P (heldOf ts)
 held-each P [] h = tt
 held-each P (t ∷ ts) h = (h .0, held-each P ts (h .1))
 
@@ -64,20 +64,20 @@ after-same c d r low high = go (isClock r) high
     go false h = omega arith
 
 -- the next marked record t is the next one r of its day, whose last clock was a; the clock of the merged day is at c by then
-module _ (t : Timed) (ts : List Timed) (r : Record) (rs : List Record) (a c : ℕ) (own : t ∷ ts ≡ timed a (r ∷ rs)) (low : a ≤ c) (high : c ≤ t .clock) where
+module _ (t : AtClock) (ts : List AtClock) (r : Record) (rs : List Record) (a c : ℕ) (own : t ∷ ts ≡ timed a (r ∷ rs)) (low : a ≤ c) (high : c ≤ t .clock) where
   is : t ≡ record { clock = clockAfter a r; held = r }
   is = ap (headOr t) own
 
   same-clock : clockAfter c (t .held) ≡ t .clock
-  same-clock = subst (λ (z : Timed). clockAfter c (z .held) ≡ z .clock) (sym is) (after-same a c r low (subst (λ (z : Timed). c ≤ z .clock) is high))
+  same-clock = subst (λ (z : AtClock). clockAfter c (z .held) ≡ z .clock) (sym is) (after-same a c r low (subst (λ (z : AtClock). c ≤ z .clock) is high))
 
   its-rest : ts ≡ timed (clockAfter a r) rs
   its-rest = ap tailOf own
 
   its-clock : clockAfter a r ≤ t .clock
-  its-clock = subst (λ (z : Timed). clockAfter a r ≤ z .clock) (sym is) (le-refl _)
+  its-clock = subst (λ (z : AtClock). clockAfter a r ≤ z .clock) (sym is) (le-refl _)
 
-home : (ms : List (Bool × Timed)) (xs ys : List Record) (a b c : ℕ) → firsts ms ≡ timed a xs → seconds ms ≡ timed b ys → climbs c (unmarked ms) ≡ true → a ≤ c → b ≤ c
+home : (ms : List (Bool × AtClock)) (xs ys : List Record) (a b c : ℕ) → firsts ms ≡ timed a xs → seconds ms ≡ timed b ys → climbs c (unmarked ms) ≡ true → a ≤ c → b ≤ c
     → timed c (heldOf (unmarked ms)) ≡ unmarked ms
 home [] xs ys a b c first second rises low below = refl
 home ((true, t) ∷ ms) [] ys a b c first second rises low below = absurd (none t (firsts ms) first)
@@ -103,7 +103,7 @@ orderly-climbs c (r ∷ rs) h =
     let p = both {a = leb c (clockAfter c r)} h in
     and-true (p .0) (orderly-climbs (clockAfter c r) rs (both {a = leb (clockAfter c r) maxClock} (p .1) .1))
 
-abbrev Early : List Timed → Type 0
+abbrev Early : List AtClock → Type 0
 Early = Each (λ t. t .clock ≤ maxClock)
 
 orderly-early : (c : ℕ) (rs : List Record) → orderly c rs ≡ true → Early (timed c rs)
@@ -119,13 +119,13 @@ climbs-orderly c (r ∷ rs) h e =
     let p = both {a = leb c (clockAfter c r)} h in
     and-true (p .0) (and-true (le-leb (clockAfter c r) maxClock (e .0)) (climbs-orderly (clockAfter c r) rs (p .1) (e .1)))
 
-opens : (ms : List (Bool × Timed)) (xs ys : List Record) → firsts ms ≡ timed 0 xs → seconds ms ≡ timed 0 ys → opensWithClock xs ≡ true → opensWithClock ys ≡ true
+opens : (ms : List (Bool × AtClock)) (xs ys : List Record) → firsts ms ≡ timed 0 xs → seconds ms ≡ timed 0 ys → opensWithClock xs ≡ true → opensWithClock ys ≡ true
     → opensWithClock (heldOf (unmarked ms)) ≡ true
 opens [] xs ys f s p q = refl
 opens ((true, t) ∷ ms) [] ys f s p q = absurd (none t (firsts ms) f)
-opens ((true, t) ∷ ms) (x ∷ xs) ys f s p q = subst (λ (z : Timed). isClock (z .held) ≡ true) (sym (ap (headOr t) f)) p
+opens ((true, t) ∷ ms) (x ∷ xs) ys f s p q = subst (λ (z : AtClock). isClock (z .held) ≡ true) (sym (ap (headOr t) f)) p
 opens ((false, t) ∷ ms) xs [] f s p q = absurd (none t (seconds ms) s)
-opens ((false, t) ∷ ms) xs (y ∷ ys) f s p q = subst (λ (z : Timed). isClock (z .held) ≡ true) (sym (ap (headOr t) s)) q
+opens ((false, t) ∷ ms) xs (y ∷ ys) f s p q = subst (λ (z : AtClock). isClock (z .held) ≡ true) (sym (ap (headOr t) s)) q
 
 -- a day that may be merged, as facts
 pub mergeable-facts : (rs : List Record) → mergeable rs ≡ true → (opensWithClock rs ≡ true) × (orderly 0 rs ≡ true)
@@ -149,7 +149,7 @@ module _ (xs ys out : List Record) (m : Merged xs ys out) where
       let early : Early (timed 0 out) =
       subst Early (sym merged-home)
       (each-marked (λ t. t .clock ≤ maxClock) (m .marked) (subst Early (sym (m .first)) (orderly-early 0 xs (x .1))) (subst Early (sym (m .second)) (orderly-early 0 ys (y .1)))) in
-      let rises : climbs 0 (timed 0 out) ≡ true = subst (λ (z : List Timed). climbs 0 z ≡ true) (sym merged-home) (m .rises) in
+      let rises : climbs 0 (timed 0 out) ≡ true = subst (λ (z : List AtClock). climbs 0 z ≡ true) (sym merged-home) (m .rises) in
       let first : opensWithClock out ≡ true = subst (λ (z : List Record). opensWithClock z ≡ true) (sym (m .all)) (opens (m .marked) xs ys (m .first) (m .second) (x .0) (y .0)) in
       and-true first (climbs-orderly 0 out rises early)
 

@@ -14,7 +14,7 @@ use borrow.Author.Tests.{le-leb, lt-leb}
 use Rattle.model.specs.declared.Record.{Record}
 use Rattle.model.specs.Words.{join}
 use Rattle.model.specs.Trace.{recordWords, recordAt}
-use Rattle.model.specs.Merge.{Timed, clockAfter, timed, unmarked}
+use Rattle.model.specs.Merge.{AtClock, clockAfter, timed, unmarked}
 use Rattle.laws.specs.Cond.{lt-or-ge}
 use Rattle.days.specs.Records.{recordCount, recordsFrom, recordsFrom-start, recordsFrom-step, recordsFrom-end, take-four}
 use Rattle.merge_laws.specs.MergedDay.{heldOf}
@@ -28,7 +28,7 @@ take-record ws to r room =
     rw next (take-four ws (recordWords * to) (r .kind) (r .first) (r .second) (r .third) (omega arith))
 
 -- what is left of a day of which i records are taken, the last of them at clock c
-abbrev pub leftOf : List ℕ → ℕ → ℕ → List Timed
+abbrev pub leftOf : List ℕ → ℕ → ℕ → List AtClock
 leftOf day i c = timed c (recordsFrom day i)
 
 abbrev pub clockAt : List ℕ → ℕ → ℕ → ℕ  -- the clock of the next record

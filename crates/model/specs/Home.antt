@@ -26,17 +26,21 @@ abbrev pub clocksMet : List ℕ → List Call → List ℕ  -- SPECIFICATION 19.
 clocksMet ws [] = []
 clocksMet ws (call ∷ calls) = clockOf (perform ws call .left) ∷ clocksMet (perform ws call .left) calls
 
-abbrev pub ClocksAccepted : List ℕ → List Call → Type 0  -- SPECIFICATION 19.5: no clock among the calls is refused
-ClocksAccepted ws [] = Unit {0}
-ClocksAccepted ws (call ∷ calls) =
-    ByCall (Unit {0}) (perform ws call .reply .number ≡ 0) (λ stamp. Unit {0}) (λ grade window. Unit {0}) call × ClocksAccepted (perform ws call .left) calls
+abbrev pub OwnClock : List ℕ → Call → Type 0  -- SPECIFICATION 19.5: a clock is accepted; a delivery and a question are judged at the clock that they meet
+OwnClock ws call =
+    let judged : Type 0 = clockOf ws ≡ clockOf (perform ws call .left) in
+    ByCall (Unit {0}) (perform ws call .reply .number ≡ 0) (λ stamp. judged) (λ grade window. judged) call
+
+abbrev pub ByOwnClocks : List ℕ → List Call → Type 0  -- SPECIFICATION 19.5: the same of each call, and each finds a sound book
+ByOwnClocks ws [] = Unit {0}
+ByOwnClocks ws (call ∷ calls) = (soundBook ws ≡ true) × OwnClock ws call × ByOwnClocks (perform ws call .left) calls
 
 pub record MeetsHome (ws day answers : List ℕ) (home : List ℕ) : Type 0 where  -- SPECIFICATION 19.5, a day replayed as a trace's only one, with these words for the answers; `home` has the clocks of its records
   pub sound : soundTrace (onlyDay day) ≡ true
   pub played : replay ws (onlyDay day) 0 answers .reply ≡ accepted []
   pub calls : replayCalls (onlyDay day) 0 (length answers) ≡ map callOf (recordsOf day)
   pub met : clocksMet ws (map callOf (recordsOf day)) ≡ home
-  pub passed : ClocksAccepted ws (map callOf (recordsOf day))
+  pub own : ByOwnClocks ws (map callOf (recordsOf day))
 
 unfoldable pub HomeClocks : Type 0  -- SPECIFICATION 19.5: of every output that a merge may leave, on every sound book not past its first clock
 HomeClocks = (a : List ℕ) (i : ℕ) (b : List ℕ) (j : ℕ) (before : List ℕ) (reply : Reply) (after : List ℕ) (merge : Merges a i b j before reply after) (done : reply .number ≡ 0)

@@ -19,33 +19,33 @@ isClock r = eqb (r .kind) clockKind
 abbrev pub clockAfter : ℕ → Record → ℕ  -- SPECIFICATION 19.1: the clock of a record: that of the last clock record up to it; `before` is the clock of the record before
 clockAfter before r = cond (isClock r) (r .first) before
 
-pub record Timed : Type 0 where  -- SPECIFICATION 19.1: a record with its clock
+pub record AtClock : Type 0 where  -- SPECIFICATION 19.1: a record with its clock
   pub clock : ℕ
   pub held : Record
 
-abbrev pub timed : ℕ → List Record → List Timed  -- SPECIFICATION 19.1: the records of a day with their clocks
+abbrev pub timed : ℕ → List Record → List AtClock  -- SPECIFICATION 19.1: the records of a day with their clocks
 timed before [] = []
 timed before (r ∷ rs) = record { clock = clockAfter before r; held = r } ∷ timed (clockAfter before r) rs
 
 -- ---- a merged day
 
-abbrev pub firsts : List (Bool × Timed) → List Timed  -- SPECIFICATION 19.2: of marked records those of the first day, which are marked true
+abbrev pub firsts : List (Bool × AtClock) → List AtClock  -- SPECIFICATION 19.2: of marked records those of the first day, which are marked true
 firsts [] = []
 firsts (m ∷ ms) = cond (m .0) (m .1 ∷ firsts ms) (firsts ms)
 
-abbrev pub seconds : List (Bool × Timed) → List Timed  -- SPECIFICATION 19.2: those of the second day, which are marked false
+abbrev pub seconds : List (Bool × AtClock) → List AtClock  -- SPECIFICATION 19.2: those of the second day, which are marked false
 seconds [] = []
 seconds (m ∷ ms) = cond (m .0) (seconds ms) (m .1 ∷ seconds ms)
 
-abbrev pub climbs : ℕ → List Timed → Bool  -- SPECIFICATION 19.2: clocks never fall, and none is below the given one
+abbrev pub climbs : ℕ → List AtClock → Bool  -- SPECIFICATION 19.2: clocks never fall, and none is below the given one
 climbs before [] = true
 climbs before (t ∷ ts) = leb before (t .clock) && climbs (t .clock) ts
 
-abbrev pub unmarked : List (Bool × Timed) → List Timed
+abbrev pub unmarked : List (Bool × AtClock) → List AtClock
 unmarked = map (λ m. m .1)
 
 pub record Merged (xs ys out : List Record) : Type 0 where  -- SPECIFICATION 19.2: `out` is a merged day of two days; the order at equal clock is undecided
-  pub marked : List (Bool × Timed)  -- its records, each with its day and its clock at home
+  pub marked : List (Bool × AtClock)  -- its records, each with its day and its clock at home
   pub first : firsts marked ≡ timed 0 xs  -- every record of the first day, in its order
   pub second : seconds marked ≡ timed 0 ys  -- and of the second
   pub rises : climbs 0 (unmarked marked) ≡ true
@@ -71,7 +71,7 @@ mergeRefusals a i b j room =
     (not (soundTrace a), 13) ∷ (not (soundTrace b), 13) ∷ (not (ltb i (dayCount a)), 14) ∷ (not (ltb j (dayCount b)), 14)
     ∷ (not (mergeable (recordsOf xs)), 16) ∷ (not (mergeable (recordsOf ys)), 16) ∷ (not (eqb room (length xs + length ys)), 17) ∷ []
 
-abbrev pub mergeReply : List ℕ → ℕ → List ℕ → ℕ → ℕ → Reply  -- SPECIFICATION 19.3
+abbrev pub mergeReply : List ℕ → ℕ → List ℕ → ℕ → ℕ → Reply  -- SPECIFICATION 19.4
 mergeReply a i b j room = numberOnly (firstOf (mergeRefusals a i b j room))
 
 pub record Merges (a : List ℕ) (i : ℕ) (b : List ℕ) (j : ℕ) (before : List ℕ) (reply : Reply) (after : List ℕ) : Type 0 where  -- SPECIFICATION 19.4: a merge answers this, and leaves these words of the output

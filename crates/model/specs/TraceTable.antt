@@ -38,7 +38,7 @@ MeetsTrace e =
     (record { place = dayReply (e .trace) (e .day); part = foundDay (e .trace) (e .day); reply = done .reply; after = done .answers } ≡ e .gives)
     × (done .book ≡ leftBy (e .book) (e .calls))
 
-abbrev made₀ : List ℕ  -- a book of the shape of P1 to P10, just made
+abbrev pub made₀ : List ℕ  -- a book of the shape of P1 to P10, just made
 made₀ = leftBy (replicate exampleWords 0) (Make 2 2 4 1 ∷ [])
 
 abbrev pub clockOnly : ℕ → List ℕ  -- a clock's record

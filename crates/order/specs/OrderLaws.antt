@@ -42,9 +42,9 @@ module _ (day : List ℕ) where
   unfolding mergeable
   none-mergeable h = rw (← recordsFrom-start day, recordsFrom-end day 0 h)
 
-  pub unopened : 0 < recordCount day → (recordAt day 0 .kind ≡ clockKind → ⊥) → false ≡ mergeable (recordsOf day)
+  pub unopened-mergeable : 0 < recordCount day → (recordAt day 0 .kind ≡ clockKind → ⊥) → false ≡ mergeable (recordsOf day)
   unfolding mergeable
-  unopened more h = rw (← recordsFrom-start day, recordsFrom-step day 0 more, ne-eqb (recordAt day 0 .kind) clockKind h)
+  unopened-mergeable more h = rw (← recordsFrom-start day, recordsFrom-step day 0 more, ne-eqb (recordAt day 0 .kind) clockKind h)
 
   pub opened-mergeable : 0 < recordCount day → recordAt day 0 .kind ≡ clockKind → orderly 0 (recordsOf day) ≡ mergeable (recordsOf day)
   unfolding mergeable

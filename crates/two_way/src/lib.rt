@@ -1,4 +1,5 @@
-// The two-way merge of the records of two days by their clocks. At equal clock it takes those of the first day first.
+// The two-way merge of the records of two days by their clocks. At equal clock it takes those of the first day first. Only `merge` uses it: a
+// caller is not promised this order.
 use days::record_at;
 use model::RECORD_WORDS;
 use model::Record;
@@ -12,7 +13,8 @@ ghost use Rattle.days.specs.Records.{recordCount};
 ghost use Rattle.merge_laws.specs.FirstNamed.{recordPart, mergedWords};
 ghost use Rattle.merge_laws.specs.Merging.{firstNext, Merging};
 
-// Where the merge stands: i records of the first day are taken, the last of them at clock c, and j of the second, the last at clock d.
+// Where the merge stands: i records of the first day are taken, the last of them at clock c, and j of the second, the last at clock d. Where
+// none is taken yet, the clock is 0.
 pub struct Place {
     pub i: usize,
     pub c: u32,

@@ -55,11 +55,11 @@ returns-2 c =
     missing-merge (a .first .now) (a .i) (a .second .now) (a .j) (a .out .now) (sym (sound (t .before .before .before)) ∙ not-false _ (c .before .if1 .left)) (sym (there t) ∙ not-true _ (c .if2 .taken))
 
 -- what both tests tell of either side
-pub record Found (a : List ℕ) (i : ℕ) : Type 0 where
+pub record Present (a : List ℕ) (i : ℕ) : Type 0 where
   pub trace : soundTrace a ≡ true
   pub day : i < dayCount a
 
-found : (c : tie.Else2) → let a = c .before .before .before .before .before .before .before .before .before .before .before .args in Found (a .first .now) (a .i) × Found (a .second .now) (a .j)
+found : (c : tie.Else2) → let a = c .before .before .before .before .before .before .before .before .before .before .before .args in Present (a .first .now) (a .i) × Present (a .second .now) (a .j)
 found c =
     let t = c .before .before in
     let a = t .before .before .before .before .before .before .before .before .before .args in

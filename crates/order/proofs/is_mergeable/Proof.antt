@@ -3,7 +3,7 @@ use native.Mathlib.Omega.{arith}
 use borrow.Author.Needs.{needs}
 use mathlib.Core.Path.{_≡_, sym, ap, _∙_}
 use Rattle.model.specs.declared.Record.{Record}
-use Rattle.order.specs.OrderLaws.{none-mergeable, unopened, opened-mergeable}
+use Rattle.order.specs.OrderLaws.{none-mergeable, unopened-mergeable, opened-mergeable}
 use Rattle.order.proofs.is_mergeable.Statement.{statement}
 use Rattle.order.proofs.is_mergeable.Tie as tie
 
@@ -17,7 +17,7 @@ returns-2 : tie.Need-returns-2
 returns-2 c =
     let r = c .before .before in
     let t = r .before in
-    unopened (t .before .before .args .day .now) (omega (arith, t .if1 .left)) (λ e. c .if2 .taken (ap (λ (z : Record). z .kind) (r .record-at .ensures) ∙ e))
+    unopened-mergeable (t .before .before .args .day .now) (omega (arith, t .if1 .left)) (λ e. omega (arith, c .if2 .taken, ap (λ (z : Record). z .kind) (r .record-at .ensures), e))
 
 is-orderly-requires : tie.Need-is-orderly-requires
 is-orderly-requires c κs = search needs

@@ -169,7 +169,7 @@ mod tests {
     use super::{bars, day, measure, moved, Pair};
     use crate::measure::Times;
     use draw::random::Random;
-    use reference::merge::{home_clocks, split};
+    use reference::merge::{home_clocks, sources};
     use reference::replay::find_day;
     use reference::trace::{CLOCK, DELIVERY, QUERY};
 
@@ -180,7 +180,7 @@ mod tests {
         let days = pair.traces.each_ref();
         let days = days.map(|trace| find_day(trace, 0).expect("a sound trace"));
         assert!(days.iter().all(|day| day.len() == 1_200));
-        assert!(split(days, &pair.expected).is_some());
+        assert!(sources(days, &pair.expected).is_some());
         let time = measure(&mut [300, 600].map(Pair::new), 0);
         assert!(time.iter().all(|time| *time > 0.0));
     }

@@ -5,7 +5,7 @@ use draw::merge::Drawn;
 use draw::random::Random;
 use draw::shapes::{within, EXAMPLE};
 use litres::{merge, Refused};
-use reference::merge::{judge, split, Named};
+use reference::merge::{judge, sources, Named};
 use reference::trace::{lay_out, Record};
 
 const CLOCK_1: Record = [1, 1, 0, 0];
@@ -61,7 +61,7 @@ fn a_day_with_itself() {
     let day = [CLOCK_1, DELIVERY, CLOCK_2, QUERY].concat();
     let week = lay_out(&[&day]);
     let out = merged((&week, 0), (&week, 0), 32).unwrap();
-    assert!(split([&day, &day], &out).is_some(), "{out:?}");
+    assert!(sources([&day, &day], &out).is_some(), "{out:?}");
 }
 
 /// Each refusal is looked for on both sides before the next one.
@@ -142,7 +142,7 @@ fn drawn_merges() {
         match judge(named, drawn.room) {
             Ok(days) => {
                 let out = found.expect("the second program accepts it");
-                assert!(split(days, &out).is_some(), "{out:?} from {days:?}");
+                assert!(sources(days, &out).is_some(), "{out:?} from {days:?}");
                 accepted += 1;
             }
             Err(number) => assert_eq!(found, Err(Refused(number)), "{named:?}"),

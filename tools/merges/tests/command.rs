@@ -11,7 +11,7 @@ use replays::implementation::Archive;
 #[test]
 fn options() {
     let trials = |seed, numbers| Ok(Trials { seed, numbers });
-    assert_eq!(read(Words::new([""; 0])), trials(1, 0..20_000));
+    assert_eq!(read(Words::new([""; 0])), trials(1, 0..48_000));
     let words = ["--seed", "7", "--merges", "12"];
     assert_eq!(read(Words::new(words)), trials(7, 0..12));
     assert_eq!(read(Words::new(["--merge", "5"])), trials(1, 5..6));

@@ -79,7 +79,7 @@ pub fn home_clocks(day: &[u32]) -> Result<Vec<u32>, Disorder> {
 ///
 /// A record can stand in both days, so it does not show from which one it has to be taken. Therefore every
 /// number of records taken from the one day and from the other is tried that can be reached.
-pub fn split(days: [&[u32]; 2], output: &[u32]) -> Option<Vec<usize>> {
+pub fn sources(days: [&[u32]; 2], output: &[u32]) -> Option<Vec<usize>> {
     if output.len() != length(days) {
         return None;
     }
@@ -109,22 +109,22 @@ pub fn split(days: [&[u32]; 2], output: &[u32]) -> Option<Vec<usize>> {
         }
     }
     let mut taken = [days[0].len(), days[1].len()];
-    let mut split = Vec::new();
+    let mut sources = Vec::new();
     while taken != [0, 0] {
         let day: usize = last[taken[0]][taken[1]]?;
         taken[day] -= 1;
-        split.push(day);
+        sources.push(day);
     }
-    split.reverse();
-    Some(split)
+    sources.reverse();
+    Some(sources)
 }
 
 /// The clock at home of each record of a merged day; nothing where the output is none.
 pub fn merged_clocks(days: [&[u32]; 2], output: &[u32]) -> Option<Vec<u32>> {
-    let split = split(days, output)?;
+    let sources = sources(days, output)?;
     let home = |day: &[u32]| home_clocks(day).expect("days that were merged");
     let mut clocks = days.map(|day| home(day).into_iter());
-    split.into_iter().map(|day| clocks[day].next()).collect()
+    sources.into_iter().map(|day| clocks[day].next()).collect()
 }
 
 /// The clock that each record of a day meets when it is replayed on a book: the book's own, once the record

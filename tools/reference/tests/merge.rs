@@ -3,7 +3,7 @@
 
 use reference::calls::{clock, make};
 use reference::merge::{
-    home_clocks, judge, length, merged_clocks, met_clocks, split, Disorder, Named,
+    home_clocks, judge, length, merged_clocks, met_clocks, sources, Disorder, Named,
 };
 use reference::shape::Shape;
 use reference::trace::{lay_out, Record};
@@ -26,7 +26,7 @@ fn q(window: u32) -> Record {
 fn merges(first: &[Record], second: &[Record], output: &[Record]) -> bool {
     let [first, second, output] = [first, second, output].map(|records| records.concat());
     let [one, other] = [[&first, &second], [&second, &first]]
-        .map(|days| split(days.map(|day| &day[..]), &output).is_some());
+        .map(|days| sources(days.map(|day| &day[..]), &output).is_some());
     assert_eq!(one, other);
     one
 }

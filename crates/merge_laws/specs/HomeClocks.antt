@@ -2,7 +2,7 @@
 -- had at home. Rests on what holds of every merged day, and on days whose clocks are in order.
 use mathlib.Core.Bool.{Bool, true}
 use mathlib.Core.Path.{_≡_, refl, sym, ap, subst, _∙_}
-use mathlib.Core.List.{List, [], _∷_, map}
+use mathlib.Core.List.{List, map}
 use Prim.Native.Nat.{ℕ, zero, suc, _+_, _*_, _/_, _%_, _≤_}
 use native.Mathlib.Nat.{le-refl}
 use native.Mathlib.Omega.{arith}
@@ -18,7 +18,7 @@ use Rattle.model.specs.Sound.{allFrom}
 use Rattle.model.specs.Trace.{recordWords, recordAt, recordsOf, soundRecord, soundDay, dayPart, soundTrace, callOf}
 use Rattle.model.specs.Replay.{answerWords, replayCalls, replay}
 use Rattle.model.specs.Claim.{Each}
-use Rattle.model.specs.Home.{onlyDay, MeetsHome, HomeClocks}
+use Rattle.model.specs.Home.{onlyDay, HomeClocks}
 use Rattle.laws.specs.Cond.{and-true}
 use Rattle.laws.specs.SoundBook.{book-facts}
 use Rattle.days.specs.Records.{day-whole}

@@ -7,14 +7,13 @@ use Prim.Native.Nat.{ℕ, _≤_}
 use lib.Dec.{leb, eqb}
 use borrow.Author.Tests.{leb-true, le-leb}
 use Rattle.shape.specs.LimitsLaws.{both}
-use Rattle.model.specs.declared.Call.{Call}
 use Rattle.model.specs.declared.Call.the-variants.{Clock, Delivery, Query}
 use Rattle.model.specs.declared.Record.{Record}
 use Rattle.model.specs.Words.{clockOf}
 use Rattle.model.specs.Sound.{maxClock}
 use Rattle.model.specs.Calls.{perform}
 use Rattle.model.specs.Trace.{deliveryKind, callOf}
-use Rattle.model.specs.Merge.{AtClock, isClock, clockAfter, timed, opensWithClock, orderly, mergeable}
+use Rattle.model.specs.Merge.{isClock, clockAfter, timed, opensWithClock, orderly, mergeable}
 use Rattle.model.specs.Home.{NotPast, clocksMet, OwnClock, ByOwnClocks}
 use Rattle.laws.specs.Cond.{and-true}
 use Rattle.laws.specs.Refusals.{perform-number}

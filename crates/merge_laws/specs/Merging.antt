@@ -1,24 +1,21 @@
 -- How the merge goes record by record: what is written and what is left make up the whole. Rests on the records of a day as a loop goes through
 -- them.
 use mathlib.Core.Bool.{Bool, true, false, true≢false, cond}
-use mathlib.Core.List.{List, [], _∷_, _++_, map, append-assoc, append-nil}
+use mathlib.Core.List.{List, [], _∷_, _++_, append-assoc, append-nil}
 use mathlib.Core.Logic.{⊎-elim}
-use mathlib.Core.Path.{_≡_, refl, sym, ap, ap₂, _∙_}
-use Prim.Native.Nat.{ℕ, zero, suc, _+_, _*_, _/_, _%_, _≤_, _<_}
-use native.Mathlib.Nat.{zero-add}
+use mathlib.Core.Path.{_≡_, sym, ap, _∙_}
+use Prim.Native.Nat.{ℕ, _+_, _*_, _%_, _≤_, _<_}
 use native.Mathlib.Omega.{arith}
 use lib.Dec.{leb}
 use lib.ListN.{length, take, set}
 use lib.Seq.{take-all}
 use borrow.Author.Tests.{le-leb, lt-leb}
 use Rattle.model.specs.declared.Record.{Record}
-use Rattle.model.specs.Words.{join}
 use Rattle.model.specs.Trace.{recordWords, recordAt}
-use Rattle.model.specs.Merge.{AtClock, clockAfter, timed, unmarked}
+use Rattle.model.specs.Merge.{AtClock, clockAfter, timed}
 use Rattle.laws.specs.Cond.{lt-or-ge}
 use Rattle.days.specs.Records.{recordCount, recordsFrom, recordsFrom-start, recordsFrom-step, recordsFrom-end, take-four}
-use Rattle.merge_laws.specs.MergedDay.{heldOf}
-use Rattle.merge_laws.specs.FirstNamed.{mergeTimed, recordPart, mergePart, mergedWords}
+use Rattle.merge_laws.specs.FirstNamed.{recordPart, mergePart, mergedWords}
 
 -- a record written after so many others
 pub take-record : (ws : List ℕ) (to : ℕ) (r : Record) → recordWords * (to + 1) ≤ length ws → let at = recordWords * to in

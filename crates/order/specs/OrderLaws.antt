@@ -1,12 +1,10 @@
 -- How the test of a day's clocks goes record by record. Rests on the records of a day as a loop goes through them.
 use mathlib.Core.Bool.{Bool, true, false, _&&_}
-use mathlib.Core.Path.{_≡_, refl, sym, ap, _∙_}
-use mathlib.Core.List.{List, [], _∷_}
+use mathlib.Core.Path.{_≡_, sym, ap, _∙_}
+use mathlib.Core.List.{List}
 use Prim.Native.Nat.{ℕ, _+_, _≤_, _<_}
 use lib.Dec.{leb, eqb}
-use lib.ListN.{length}
 use borrow.Author.Tests.{le-leb, lt-leb, eq-eqb, ne-eqb}
-use Rattle.model.specs.declared.Record.{Record}
 use Rattle.model.specs.Sound.{maxClock}
 use Rattle.model.specs.Trace.{clockKind, recordAt, recordsOf}
 use Rattle.model.specs.Merge.{clockAfter, orderly, mergeable}

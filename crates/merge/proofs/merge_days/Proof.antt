@@ -1,5 +1,4 @@
 -- Each way out of the tests is one case of the definition.
-use native.Mathlib.Omega.{arith}
 use borrow.Author.Needs.{needs}
 use borrow.Author.Tests.{not-true, not-false, eqb-true}
 use mathlib.Core.Bool.{_&&_}

@@ -1,7 +1,7 @@
 -- No record; another record first than a clock's; or the test of the clocks.
 use native.Mathlib.Omega.{arith}
 use borrow.Author.Needs.{needs}
-use mathlib.Core.Path.{_≡_, sym, ap, _∙_}
+use mathlib.Core.Path.{sym, ap, _∙_}
 use Rattle.model.specs.declared.Record.{Record}
 use Rattle.order.specs.OrderLaws.{none-mergeable, unopened-mergeable, opened-mergeable}
 use Rattle.order.proofs.is_mergeable.Statement.{statement}

@@ -3,7 +3,6 @@ use native.Mathlib.Omega.{arith}
 use borrow.Author.Needs.{needs}
 use mathlib.Core.Path.{_≡_, sym, ap, _∙_}
 use Prim.Native.Nat.{_-_, _≤_}
-use Rattle.model.specs.declared.Record.{Record}
 use Rattle.model.specs.Trace.{recordsOf}
 use Rattle.model.specs.Merge.{clockAfter, orderly}
 use Rattle.order.specs.OrderLaws.{orderlyFrom, orderly-start, orderly-end, orderly-falls, orderly-passes, orderly-step}

@@ -1,14 +1,14 @@
 -- The record that is written is the next of the merge.
 use native.Mathlib.Omega.{arith}
 use borrow.Author.Needs.{needs}
-use mathlib.Core.Path.{_≡_, sym, ap, _∙_}
+use mathlib.Core.Path.{sym, ap, _∙_}
 use mathlib.Core.List.{_++_}
 use Prim.Native.Nat.{_+_, _*_}
 use lib.ListN.{take}
 use Rattle.model.specs.Trace.{recordWords}
 use Rattle.model.specs.Merge.{clockAfter}
 use Rattle.merge_laws.specs.FirstNamed.{recordPart}
-use Rattle.merge_laws.specs.Merging.{Merging, first-written, second-written, first-there, second-there, counts-add}
+use Rattle.merge_laws.specs.Merging.{first-written, second-written, first-there, second-there, counts-add}
 use Rattle.two_way.proofs.take_next.Statement.{statement}
 use Rattle.two_way.proofs.take_next.Tie as tie
 

@@ -178,12 +178,15 @@ uint32_t litres_replay(uint32_t *book, size_t len, const uint32_t *trace, size_t
  * clock of a record is that of the last clock record up to it in its own day. Which of the two days
  * comes first among records of equal clock is undecided: do not rely on what this version does. A
  * day may be empty, and a day may be merged with itself.
+ * `out_len` must be exactly the lengths of the two days together, which litres_day gives. A day that
+ * is not empty must open with a clock record, and its clocks must neither fall nor pass 2000000000.
  * Only records are written. With the words 1, 3 and out_len before them they are a trace of which
  * the merged day is the only one, as long as out_len is below 2^32. Replayed on a book that is not
  * damaged and whose clock is not past the day's first, each record meets the clock that it had in
- * its own day.
+ * its own day. A delivery can still be refused there, also 12 because of the other day's deliveries.
  * Refused, in this order: 13 (for either trace; any record of any day counts), 14 (for either), 16
- * (for either day; other days do not count), 17.
+ * (for either day; other days do not count), 17. The number does not tell which of the two it is: for
+ * 13 and 14, litres_day of each trace does.
  */
 uint32_t litres_merge(const uint32_t *first, size_t first_len, uint32_t first_day,
                       const uint32_t *second, size_t second_len, uint32_t second_day,

@@ -107,7 +107,7 @@ module _ (ws : List ℕ) (b : SoundBook ws) where
   block-both : (grade : ℕ) → grade < s .g → Both s proper (blockAt ws grade)
   block-both grade h = soundBlock-decode s (blockPart s grade ws) (b .blocks grade h)
 
-  -- a sound book refuses no clock within its limits
+  -- a sound book refuses no clock from its own up to the largest
   pub clock-first : (to : ℕ) → clockOf ws ≤ to → to ≤ maxClock → firstOf (refusals (bookView ws) (Clock to)) ≡ 0
   unfolding refusals bookView
   clock-first to later early =

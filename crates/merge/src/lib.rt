@@ -13,14 +13,13 @@ ghost use mathlib.Core.Bool.{true};
 ghost use mathlib.Core.Path.{_≡_};
 ghost use Prim.Native.Nat.{_+_, _<_};
 ghost use lib.Dec.{ltb, eqb};
-ghost use lib.ListN.{length};
 ghost use Rattle.model.specs.Calls.{outcomeOf};
 ghost use Rattle.model.specs.Reply.{replyOf};
 ghost use Rattle.model.specs.Trace.{soundDay, dayCount, dayPart, soundTrace};
 ghost use Rattle.model.specs.Merge.{Merges};
 ghost use Rattle.merge_laws.specs.FirstNamed.{mergeDays, mergeFirst};
 
-// Whether x and y make up the sum. It is not formed, since it might not fit a usize.
+// Whether x and y make up the sum. x + y is not formed, since it might not fit a usize.
 fn is_sum(sum: usize, x: usize, y: usize) -> bool
     ensures { λ r. ⌜ r ≡ eqb sum (x + y) ⌝ }
 {

@@ -16,11 +16,11 @@ use Rattle.model.specs.Block.{upFrom}
 use Rattle.model.specs.Words.{join}
 use Rattle.model.specs.Calls.{firstOf, Outcome, outcomeOf, settle}
 use Rattle.model.specs.Trace.{recordWords, recordAt, recordsOf, dayCount, dayPart, soundTrace}
-use Rattle.model.specs.Merge.{AtClock, timed, firsts, seconds, climbs, unmarked, Merged, mergeable, mergeRefusals, Merges}
+use Rattle.model.specs.Merge.{AtClock, timed, firsts, seconds, climbs, unmarked, heldOf, Merged, mergeable, mergeRefusals, Merges}
 use Rattle.laws.specs.Cond.{and-true, eq-or-ne}
 use Rattle.laws.specs.Refusals.{settle-accepted, settle-refused}
 use Rattle.merge_laws.specs.AcceptedMerge.{accepted-merge}
-use Rattle.merge_laws.specs.MergedDay.{heldOf, mergeable-climbs}
+use Rattle.merge_laws.specs.MergedDay.{mergeable-climbs}
 
 -- ---- the definition
 

@@ -12,11 +12,8 @@ use Rattle.shape.specs.LimitsLaws.{both}
 use Rattle.model.specs.declared.Record.{Record}
 use Rattle.model.specs.Sound.{maxClock}
 use Rattle.model.specs.Claim.{Each}
-use Rattle.model.specs.Merge.{AtClock, Merged, isClock, clockAfter, timed, opensWithClock, orderly, mergeable, firsts, seconds, climbs, unmarked}
+use Rattle.model.specs.Merge.{AtClock, Merged, isClock, clockAfter, timed, opensWithClock, orderly, mergeable, firsts, seconds, climbs, unmarked, heldOf}
 use Rattle.laws.specs.Cond.{and-true}
-
-abbrev pub heldOf : List AtClock → List Record  -- records without their clocks
-heldOf = map (λ t. t .held)
 
 -- ---- lists of records with clocks
 
@@ -55,7 +52,7 @@ held-each P (t ∷ ts) h = (h .0, held-each P ts (h .1))
 
 -- ---- the clocks at home
 
--- a clock record sets its own clock; another has that of before, wherever it stands
+-- a record has the same clock after d as after c, if d lies from c up to that clock: a clock record sets its own, and for another d is c
 after-same : (c d : ℕ) (r : Record) → c ≤ d → d ≤ clockAfter c r → clockAfter d r ≡ clockAfter c r
 after-same c d r low high = go (isClock r) high
   where
@@ -153,7 +150,7 @@ module _ (xs ys out : List Record) (m : Merged xs ys out) where
       let first : opensWithClock out ≡ true = subst (λ (z : List Record). opensWithClock z ≡ true) (sym (m .all)) (opens (m .marked) xs ys (m .first) (m .second) (x .0) (y .0)) in
       and-true first (climbs-orderly 0 out rises early)
 
-  -- what holds of each record of both days holds of each of its records
+  -- what holds of each record of both days holds of each record of the merged day
   pub merged-each : (P : Record → Type 0) → Each P xs → Each P ys → Each P out
   merged-each P h k =
       let of : (rs : List Record) → Each P rs → Each (λ t. P (t .held)) (timed 0 rs) = λ rs g. each-held P (timed 0 rs) (subst (Each P) (sym (held-timed 0 rs)) g) in

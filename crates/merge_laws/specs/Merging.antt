@@ -121,7 +121,7 @@ module _ (a b : List ℕ) (i c j d : ℕ) (out new : List ℕ) (m : Merging a b 
         same = written (recordAt b j) (i + (j + 1)) (mergePart (leftOf a i c) (leftOf b j d)) (mergePart (leftOf a i c) (leftOf b (j + 1) (clockAt b j d))) (omega arith) put (n .1) (m .same);
       }
 
--- there is such a record
+-- the day of the next record has one left
 pub first-there : (a b : List ℕ) (i c j d : ℕ) → firstNext a i c b j d ≡ true → i < recordCount a
 first-there a b i c j d e = next-first a i c b j d e .0
 

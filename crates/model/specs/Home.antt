@@ -42,7 +42,7 @@ pub record MeetsHome (ws day answers : List ℕ) (home : List ℕ) : Type 0 wher
   pub met : clocksMet ws (map callOf (recordsOf day)) ≡ home
   pub own : ByOwnClocks ws (map callOf (recordsOf day))
 
-unfoldable pub HomeClocks : Type 0  -- SPECIFICATION 19.5: of every output that a merge may leave, on every sound book not past its first clock
+unfoldable pub HomeClocks : Type 0  -- SPECIFICATION 19.5: of every output that an accepted merge may leave, on every sound book not past its first clock
 HomeClocks = (a : List ℕ) (i : ℕ) (b : List ℕ) (j : ℕ) (before : List ℕ) (reply : Reply) (after : List ℕ) (merge : Merges a i b j before reply after) (done : reply .number ≡ 0)
     (ws : List ℕ) → soundBook ws ≡ true → NotPast (clockOf ws) (recordsOf after) → (answers : List ℕ) → answerWords * length (recordsOf after) ≤ length answers
     → MeetsHome ws after answers (map (λ t. t .clock) (unmarked (merge .merged done .marked)))

@@ -41,15 +41,18 @@ abbrev pub climbs : ℕ → List AtClock → Bool  -- SPECIFICATION 19.2: clocks
 climbs before [] = true
 climbs before (t ∷ ts) = leb before (t .clock) && climbs (t .clock) ts
 
-abbrev pub unmarked : List (Bool × AtClock) → List AtClock
+abbrev pub unmarked : List (Bool × AtClock) → List AtClock  -- SPECIFICATION 19.2: the records without their marks
 unmarked = map (λ m. m .1)
+
+abbrev pub heldOf : List AtClock → List Record  -- SPECIFICATION 19.2: the records without their clocks
+heldOf = map (λ t. t .held)
 
 pub record Merged (xs ys out : List Record) : Type 0 where  -- SPECIFICATION 19.2: `out` is a merged day of two days; the order at equal clock is undecided
   pub marked : List (Bool × AtClock)  -- its records, each with its day and its clock at home
   pub first : firsts marked ≡ timed 0 xs  -- every record of the first day, in its order
   pub second : seconds marked ≡ timed 0 ys  -- and of the second
   pub rises : climbs 0 (unmarked marked) ≡ true
-  pub all : out ≡ map (λ t. t .held) (unmarked marked)  -- and nothing else
+  pub all : out ≡ heldOf (unmarked marked)  -- and nothing else
 
 -- ---- a merge
 

@@ -20,7 +20,7 @@ use Rattle.model.specs.Calls.{refusals, bookView, made, clocked, deliver
 use Rattle.model.specs.Trace.{recordsOf, soundRecord, callOf, soundDay, soundTrace}
 use Rattle.model.specs.Replay.{repliesTo}
 use Rattle.model.specs.Claim.{Each}
-use Rattle.model.specs.Merge.{AtClock, timed, firsts, seconds, climbs, unmarked, Merged, mergeable, mergeReply}
+use Rattle.model.specs.Merge.{AtClock, timed, firsts, seconds, climbs, unmarked, heldOf, Merged, mergeable, mergeReply}
 use Rattle.model.specs.Home.{onlyDay, clocksMet}
 use Rattle.model.specs.TraceTable.{clockOnly, made₀}
 
@@ -73,7 +73,7 @@ orders =
     ∷ order true true false true true false fivesThenSevens true
     ∷ order true true false true false true fivesThenSevens true
     ∷ order true true false false true true fivesThenSevens true
-    -- the question at clock 5 stands before the clock of 7, though it is no clock record itself
+    -- no merged day: B's clock of 7 before the question at clock 5; all of B before A
     ∷ order true false true true true false (5 ∷ 7 ∷ 5 ∷ 7 ∷ 7 ∷ 7 ∷ []) false
     ∷ order false false true true true true (7 ∷ 7 ∷ 5 ∷ 5 ∷ 7 ∷ 7 ∷ []) false
     ∷ []
@@ -107,25 +107,22 @@ nthKind i rs = getD (map (λ r. r .kind) rs) i 0
 abbrev nthFirst : ℕ → List Record → ℕ
 nthFirst i rs = getD (map (λ r. r .first) rs) i 0
 
-abbrev heldBy : List AtClock → List Record
-heldBy = map (λ t. t .held)
-
 pub exchanged-is-none : Merged atFive atSeven exchanged → ⊥
 exchanged-is-none m = go (m .marked) (m .first) (m .second) (m .rises) (m .all)
   where
-    go : (ms : List (Bool × AtClock)) → firsts ms ≡ timed 0 atFive → seconds ms ≡ timed 0 atSeven → climbs 0 (unmarked ms) ≡ true → exchanged ≡ heldBy (unmarked ms) → ⊥
+    go : (ms : List (Bool × AtClock)) → firsts ms ≡ timed 0 atFive → seconds ms ≡ timed 0 atSeven → climbs 0 (unmarked ms) ≡ true → exchanged ≡ heldOf (unmarked ms) → ⊥
     go [] f s r a = omega (arith, ap length a)
     go (x ∷ []) f s r a = omega (arith, ap length a)
     go (x ∷ y ∷ []) f s r a = omega (arith, ap length a)
     go (x ∷ y ∷ z ∷ w ∷ ms) f s r a = omega (arith, ap length a)
     go ((true, x) ∷ (true, y) ∷ (true, z) ∷ []) f s r a = omega (arith, ap length f)
-    go ((true, x) ∷ (true, y) ∷ (false, z) ∷ []) f s r a = omega (arith, ap (λ ts. nthKind 1 (heldBy ts)) f, ap (nthKind 1) a)
+    go ((true, x) ∷ (true, y) ∷ (false, z) ∷ []) f s r a = omega (arith, ap (λ ts. nthKind 1 (heldOf ts)) f, ap (nthKind 1) a)
     go ((true, x) ∷ (false, y) ∷ (true, z) ∷ []) f s r a =
         let p = both {a = leb 0 (x .clock)} r in
         let q = both {a = leb (x .clock) (y .clock)} (p .1) in
         omega (arith, leb-true (y .clock) (z .clock) (both {a = leb (y .clock) (z .clock)} (q .1) .0), ap (nthClock 1) f, ap (nthClock 0) s)
     go ((true, x) ∷ (false, y) ∷ (false, z) ∷ []) f s r a = omega (arith, ap length f)
-    go ((false, x) ∷ (true, y) ∷ (true, z) ∷ []) f s r a = omega (arith, ap (λ ts. nthFirst 0 (heldBy ts)) s, ap (nthFirst 0) a)
+    go ((false, x) ∷ (true, y) ∷ (true, z) ∷ []) f s r a = omega (arith, ap (λ ts. nthFirst 0 (heldOf ts)) s, ap (nthFirst 0) a)
     go ((false, x) ∷ (true, y) ∷ (false, z) ∷ []) f s r a = omega (arith, ap length f)
     go ((false, x) ∷ (false, y) ∷ (true, z) ∷ []) f s r a = omega (arith, ap length f)
     go ((false, x) ∷ (false, y) ∷ (false, z) ∷ []) f s r a = omega (arith, ap length f)

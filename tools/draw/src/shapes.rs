@@ -69,7 +69,7 @@ pub fn draw(random: &mut Random) -> Shape {
     })
 }
 
-/// The same, but of a book with at most so many words. The example has 90.
+/// The same, but of a book with at most so many words. The example's has 90, so from 90 on the search ends.
 pub fn draw_short(random: &mut Random, longest: usize) -> Shape {
     loop {
         let shape = draw(random);

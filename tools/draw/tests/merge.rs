@@ -1,5 +1,5 @@
-//! Drawn merges: most are accepted, each refusal comes alone and together with others, and days have many
-//! equal clocks and records.
+//! Drawn merges: nearly half are accepted, each refusal comes alone and together with others, and days have
+//! many equal clocks and records.
 
 use draw::merge::{book, met, Drawn, BOOKS};
 use draw::random::Random;

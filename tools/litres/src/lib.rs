@@ -144,7 +144,8 @@ pub fn replay(
 
 /// Merges a day of one trace with a day of another, or of the same, and writes the merged day: every record of
 /// both, each day's own order kept, and clocks never falling. `include/litres.h` says what a record's clock
-/// is. The order of the two days at an equal clock is undecided. `out` has as many words as both days.
+/// is. The order of the two days at an equal clock is undecided. `out` must have as many words as both days
+/// together, by [`find_day`].
 pub fn merge(
     first: &[u32],
     first_day: u32,

@@ -16,7 +16,7 @@ use replays::difference::Asked;
 use replays::implementation::{Implementation, Lent};
 
 use crate::difference::{Difference, Of, What};
-use crate::implementation::Merging;
+use crate::implementation::Merger;
 
 /// A merged day.
 pub struct Merged {
@@ -29,7 +29,7 @@ pub struct Merged {
 /// Has the implementation merge and judges what it did. It gives the merged day, or the number under which
 /// the merge was rightly refused.
 pub fn merge(
-    implementation: &impl Merging,
+    implementation: &impl Merger,
     random: &mut Random,
     drawn: &Drawn,
 ) -> Result<Result<Merged, u32>, Box<Difference>> {

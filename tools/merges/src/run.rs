@@ -6,7 +6,7 @@ use draw::shapes;
 use reference::shape::Shape;
 
 use crate::difference::Difference;
-use crate::implementation::Merging;
+use crate::implementation::Merger;
 use crate::merged::{merge, replay};
 use crate::summary::Summary;
 
@@ -18,7 +18,7 @@ pub type Failure = draw::trial::Failure<Difference>;
 
 /// Every merge, judged and replayed.
 pub fn run(
-    implementation: &impl Merging,
+    implementation: &impl Merger,
     seed: u64,
     merges: impl Iterator<Item = u64>,
 ) -> Result<Summary, Box<Failure>> {
@@ -28,7 +28,7 @@ pub fn run(
 }
 
 fn trial(
-    implementation: &impl Merging,
+    implementation: &impl Merger,
     random: &mut Random,
     summary: &mut Summary,
 ) -> Result<(), Box<Difference>> {

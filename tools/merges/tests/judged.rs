@@ -4,7 +4,7 @@ mod wrong;
 
 use draw::merge::met::clocks_set;
 use merges::difference::What;
-use merges::implementation::Merging;
+use merges::implementation::Merger;
 use reference::merge::{home_clocks, judge, length, Disorder, Named};
 use reference::shape::Shape;
 use reference::trace::{days, RECORD_WORDS};
@@ -17,7 +17,7 @@ struct Judging<J>(J);
 
 impl<J> Implementation for Judging<J> {}
 
-impl<J: Fn([Named; 2], usize) -> Result<(), u32>> Merging for Judging<J> {
+impl<J: Fn([Named; 2], usize) -> Result<(), u32>> Merger for Judging<J> {
     fn merge(&self, named: [Named; 2], output: &mut [u32]) -> Result<(), u32> {
         (self.0)(named, output.len())?;
         if let Ok(days) = judge(named, output.len()) {

@@ -6,7 +6,7 @@ mod wrong;
 use std::cmp::Reverse;
 
 use merges::difference::{Of, What};
-use merges::implementation::Merging;
+use merges::implementation::Merger;
 use merges::run::run;
 use reference::merge::{judge, Named};
 use reference::replay;
@@ -20,7 +20,7 @@ struct Writing<W>(W);
 
 impl<W> Implementation for Writing<W> {}
 
-impl<W: Fn([&[u32]; 2]) -> Vec<u32>> Merging for Writing<W> {
+impl<W: Fn([&[u32]; 2]) -> Vec<u32>> Merger for Writing<W> {
     fn merge(&self, named: [Named; 2], output: &mut [u32]) -> Result<(), u32> {
         let words = (self.0)(judge(named, output.len())?);
         let count = words.len().min(output.len());
@@ -38,7 +38,7 @@ fn by_key<K: Ord>(key: impl Fn(&Marked) -> K) -> Writing<impl Fn([&[u32]; 2]) ->
     })
 }
 
-fn assert_found(name: &str, stand_in: &impl Merging) {
+fn assert_found(name: &str, stand_in: &impl Merger) {
     let found = wrong(stand_in);
     assert!(matches!(found, Some(What::Output(_))), "{name}: {found:?}");
 }
@@ -154,7 +154,7 @@ fn records_left_out_or_changed() {
 fn a_refused_merge_that_writes() {
     struct Careless(u32);
     impl Implementation for Careless {}
-    impl Merging for Careless {
+    impl Merger for Careless {
         fn merge(&self, named: [Named; 2], output: &mut [u32]) -> Result<(), u32> {
             match judge(named, output.len()) {
                 Ok(days) => output.copy_from_slice(&right(days)),
@@ -176,14 +176,14 @@ fn a_refused_merge_that_writes() {
     }
 }
 
-/// A right merge, but replays of this many records leave out the clocks.
+/// A right merge, but a replay of this many records leaves the book as it was.
 struct Sleeping<S>(S);
 
 impl<S: Fn(usize) -> bool> Implementation for Sleeping<S> {
     fn replay(&self, lent: Lent) -> Result<(), u32> {
         let records = replay::calls(lent.trace, lent.day, lent.answers.len())?.len();
         let before = lent.book.to_vec();
-        let sleeps = (self.0)(records) && lent.trace.contains(&CLOCK);
+        let sleeps = (self.0)(records);
         lent.by(|book, trace, day, answers| {
             replay::replay(book, trace, day, answers)?;
             if sleeps {
@@ -194,7 +194,7 @@ impl<S: Fn(usize) -> bool> Implementation for Sleeping<S> {
     }
 }
 
-impl<S: Fn(usize) -> bool> Merging for Sleeping<S> {
+impl<S: Fn(usize) -> bool> Merger for Sleeping<S> {
     fn merge(&self, named: [Named; 2], output: &mut [u32]) -> Result<(), u32> {
         output.copy_from_slice(&right(judge(named, output.len())?));
         Ok(())
@@ -202,7 +202,7 @@ impl<S: Fn(usize) -> bool> Merging for Sleeping<S> {
 }
 
 /// What is wrong with each merge by itself, since a run ends with the first.
-fn each(stand_in: &impl Merging) -> impl Iterator<Item = What> + '_ {
+fn each(stand_in: &impl Merger) -> impl Iterator<Item = What> + '_ {
     let failures = (0..2_000).filter_map(|merge| run(stand_in, 1, merge..merge + 1).err());
     failures.map(|failure| failure.difference.what)
 }

@@ -15,7 +15,7 @@ use crate::implementation::{Implementation, Lent};
 
 /// Words past the book, for replays that are lent more than it has.
 pub const TAIL: usize = 24;
-/// Words around the answers, and around a trace.
+/// Words around the answers or an output, and around a trace.
 pub const MARGIN: usize = 5;
 
 /// The calls of an accepted replay with their answers, or the number of its refusal.

@@ -8,14 +8,14 @@ use options::Words;
 /// How the program is called.
 pub const USAGE: &str = "\
 usage: trace make [-o FILE] DAY ..
-       trace merge [-o FILE] FIRST N SECOND N
+       trace merge [-o FILE] FIRST I SECOND J
        trace print FILE
 
 make writes a trace, as 32-bit words with the low byte first. Each DAY is a file of the bench
 protocol's lines c, d and q, one for each record; the days are numbered from 0 as they are named.
-merge writes a trace of one day: day N of the trace in file FIRST and day N of that in SECOND,
-merged by the library. If it refuses them, the number and the reason are told.
-  -o FILE  writes to FILE and not to standard output
+merge writes a trace of one day: day I of the trace in file FIRST, merged by the library with day J
+of that in SECOND. If it is refused, the number and the reason are told, and FILE is not touched.
+  -o FILE  writes to FILE, over what is there, and not to standard output
 print tells where each day of a trace starts, how many words it has, and its records as such lines,
 or where the layout is broken.";
 
@@ -55,7 +55,7 @@ impl Command {
                 Ok(Command::Make { output, days })
             }
             Some("merge") => {
-                let names = ["FIRST", "its N", "SECOND", "its N"];
+                let names = ["FIRST", "I", "SECOND", "J"];
                 let [first, first_day, second, second_day] = Words::new(rest).operands(names)?;
                 let days = [
                     (PathBuf::from(first), day(&first_day)?),

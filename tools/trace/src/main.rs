@@ -31,9 +31,13 @@ fn run(command: Command) -> Result<(), String> {
         }
         Command::Merge { output, days } => {
             let [(first, first_day), (second, second_day)] = days;
+            let names = [&first, &second].map(|file| file.display().to_string());
             let (first, second) = (read_words(&first)?, read_words(&second)?);
-            let named = [(&first, first_day), (&second, second_day)];
-            let merged = merge(named.map(|(trace, day)| Named { trace, day }))?;
+            let named = |trace, day| Named { trace, day };
+            let merged = merge([
+                (&names[0], named(&first, first_day)),
+                (&names[1], named(&second, second_day)),
+            ])?;
             write(output.as_deref(), &bytes(&merged))
         }
         Command::Print(file) => {

@@ -1,19 +1,39 @@
 //! From two days to a trace of the merged one.
 
-use litres::find_day;
-use reference::merge::Named;
+use litres::{find_day, Refused};
+use reference::merge::{home_clocks, Named};
+use reference::refusal::ORDER;
 use reference::trace::lay_out;
 
 use crate::make::check_lengths;
 
-/// A trace whose only day is these two merged; the error says why there is none.
-pub fn merge([first, second]: [Named; 2]) -> Result<Vec<u32>, String> {
+/// A trace whose only day is these two merged, each with the name of its file; the error says why there is
+/// none.
+pub fn merge(days: [(&str, Named); 2]) -> Result<Vec<u32>, String> {
+    let [first, second] = days.map(|(_, day)| day);
     // Where a day is not found, the merge itself says why: it looks at both traces in its own order.
     let length = |Named { trace, day }| find_day(trace, day).map_or(0, <[u32]>::len);
     let length = length(first).saturating_add(length(second));
     check_lengths(&[length])?;
     let mut day = vec![0; length];
-    let reply = litres::merge(first.trace, first.day, second.trace, second.day, &mut day);
-    reply.map_err(|refused| format!("refused {}, {refused}", refused.0))?;
+    litres::merge(first.trace, first.day, second.trace, second.day, &mut day)
+        .map_err(|refused| told(days, refused))?;
     Ok(lay_out(&[day]))
+}
+
+/// A line for each day for which the merge is refused. Its number alone does not tell which of the two it is.
+fn told(days: [(&str, Named); 2], refused: Refused) -> String {
+    let concerned = |day: Named| match day.find() {
+        Err(number) => number == refused.0,
+        Ok(day) => refused.0 == ORDER && home_clocks(day).is_err(),
+    };
+    let line = |(file, day): (&str, Named)| {
+        let named = format!("{file}, day {}", day.day);
+        concerned(day).then(|| format!("{named}: refused {}, {refused}", refused.0))
+    };
+    let lines: Vec<String> = days.into_iter().filter_map(line).collect();
+    match lines[..] {
+        [] => format!("refused {}, {refused}", refused.0),
+        _ => lines.join("\n"),
+    }
 }

@@ -187,21 +187,27 @@ fn days_that_are_not_merged() {
     let cases = [
         (
             merge(&trace, "2", &broken, "1"),
-            "refused 13, the trace breaks",
+            "broken, day 1: refused 13, the trace breaks its layout or has an unsound record\n",
         ),
         (
             merge(&disorder, "0", &trace, "2"),
-            "refused 14, the trace has no",
+            "trace, day 2: refused 14, the trace has no such day\n",
         ),
         (
             merge(&trace, "1", &disorder, "0"),
-            "refused 16, a day opens with no clock",
+            "disorder, day 0: refused 16, a day opens with no clock, or clocks fall or pass 2000000000\n",
         ),
     ];
     for (words, reason) in cases {
         let said = trouble(&words, 1);
-        assert!(said.starts_with(reason), "{said}");
+        assert!(said.ends_with(&format!("/{reason}")), "{said}");
+        assert_eq!(said.lines().count(), 1, "{said}");
     }
+    // Both are told where both are at fault.
+    let said = trouble(&merge(&disorder, "1", &trace, "2"), 1);
+    assert_eq!(said.lines().count(), 2, "{said}");
+    assert!(said.contains("disorder, day 1: refused 14"), "{said}");
+    assert!(said.contains("trace, day 2: refused 14"), "{said}");
     let half = folder.file("half", &bytes(&EXAMPLE)[..98]);
     let said = trouble(&merge(&trace, "0", &half, "0"), 1);
     assert!(
@@ -219,8 +225,8 @@ fn wrong_command_lines() {
         (&["print", "a", "b"], "one word too many: b"),
         (&["print", "-o", "a", "b"], "-o goes with make and merge"),
         (&["merge"], "FIRST is missing"),
-        (&["merge", "a"], "its N is missing"),
-        (&["merge", "a", "0", "b"], "its N is missing"),
+        (&["merge", "a"], "I is missing"),
+        (&["merge", "a", "0", "b"], "J is missing"),
         (&["merge", "a", "0", "b", "1", "c"], "one word too many: c"),
         (&["merge", "a", "0", "b", "c"], "no number of a day: c"),
         (

@@ -54,7 +54,7 @@ returns-2 c =
     let a = t .before .before .before .before .before .before .before .before .before .args in
     missing-merge (a .first .now) (a .i) (a .second .now) (a .j) (a .out .now) (sym (sound (t .before .before .before)) ∙ not-false _ (c .before .if1 .left)) (sym (there t) ∙ not-true _ (c .if2 .taken))
 
--- what both tests tell of either side
+-- what both tests tell of each side
 pub record Present (a : List ℕ) (i : ℕ) : Type 0 where
   pub trace : soundTrace a ≡ true
   pub day : i < dayCount a

@@ -1,7 +1,7 @@
 //! A right merge, which stand-ins change in one thing, and what a usual run says of them.
 
 use merges::difference::What;
-use merges::implementation::Merging;
+use merges::implementation::Merger;
 use merges::run::run;
 use merges::summary::MERGES_FOR_ALL;
 use reference::merge::home_clocks;
@@ -50,13 +50,13 @@ pub fn right(days: [&[u32]; 2]) -> Vec<u32> {
 }
 
 /// The first thing that a usual run finds wrong, if any.
-pub fn wrong(stand_in: &impl Merging) -> Option<What> {
+pub fn wrong(stand_in: &impl Merger) -> Option<What> {
     let failure = run(stand_in, 1, 0..20_000).err();
     failure.map(|failure| failure.difference.what)
 }
 
 /// Nothing is wrong with this stand-in, so what is wrong with others is their change.
-pub fn assert_right(name: &str, stand_in: &impl Merging) {
+pub fn assert_right(name: &str, stand_in: &impl Merger) {
     let merges = 2 * MERGES_FOR_ALL;
     let summary = run(stand_in, 2, 0..merges).unwrap_or_else(|failure| panic!("{name}: {failure}"));
     assert_eq!(summary.merges(), merges);

@@ -185,8 +185,8 @@ uint32_t litres_replay(uint32_t *book, size_t len, const uint32_t *trace, size_t
  * damaged and whose clock is not past the day's first, each record meets the clock that it had in
  * its own day. A delivery can still be refused there, also 12 because of the other day's deliveries.
  * Refused, in this order: 13 (for either trace; any record of any day counts), 14 (for either), 16
- * (for either day; other days do not count), 17. The number does not tell which of the two it is: for
- * 13 and 14, litres_day of each trace does.
+ * (for either day; other days do not count), 17. The number does not tell which of the two it is:
+ * for 13 and 14, litres_day of each trace does.
  */
 uint32_t litres_merge(const uint32_t *first, size_t first_len, uint32_t first_day,
                       const uint32_t *second, size_t second_len, uint32_t second_day,

@@ -1,4 +1,5 @@
--- What an accepted merge tells of the two days and of the output, and the number of a merge's reply. Rests on the days of a sound trace being sound.
+-- What an accepted merge tells of the two days and of the output, and the number of a merge's reply. Rests on the days of a sound trace being
+-- sound.
 use mathlib.Core.Bool.{true, false, not}
 use mathlib.Core.Path.{_≡_, refl, sym, ap, subst, _∙_}
 use mathlib.Core.List.{List, [], _∷_}

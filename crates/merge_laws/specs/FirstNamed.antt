@@ -16,7 +16,7 @@ use Rattle.model.specs.Block.{upFrom}
 use Rattle.model.specs.Words.{join}
 use Rattle.model.specs.Calls.{firstOf, Outcome, outcomeOf, settle}
 use Rattle.model.specs.Trace.{recordWords, recordAt, recordsOf, dayCount, dayPart, soundTrace}
-use Rattle.model.specs.Merge.{AtClock, timed, firsts, seconds, climbs, unmarked, heldOf, Merged, mergeable, mergeRefusals, Merges}
+use Rattle.model.specs.Merge.{AtClock, timed, firsts, seconds, climbs, unmarked, heldOf, Merged, mergeable, orderRefusals, mergeRefusals, Merges}
 use Rattle.laws.specs.Cond.{and-true, eq-or-ne}
 use Rattle.laws.specs.Refusals.{settle-accepted, settle-refused}
 use Rattle.merge_laws.specs.AcceptedMerge.{accepted-merge}
@@ -42,11 +42,7 @@ unfoldable pub mergedWords : List ℕ → List ℕ → List ℕ  -- the words of
 mergedWords a b = mergePart (timed 0 (recordsOf a)) (timed 0 (recordsOf b))
 
 unfoldable pub mergeDays : List ℕ → List ℕ → List ℕ → Outcome (List ℕ)  -- a merge of two days that are found: the part that follows the refusals of finding them
-mergeDays xs ys before =
-    settle
-    ((not (mergeable (recordsOf xs)), 16) ∷ (not (mergeable (recordsOf ys)), 16) ∷ (not (eqb (length before) (length xs + length ys)), 17) ∷ [])
-    before
-    (outcomeOf (accepted []) (mergedWords xs ys))
+mergeDays xs ys before = settle (orderRefusals xs ys (length before)) before (outcomeOf (accepted []) (mergedWords xs ys))
 
 unfoldable pub mergeFirst : List ℕ → ℕ → List ℕ → ℕ → List ℕ → Outcome (List ℕ)  -- a merge: its reply, and the words of the output afterwards
 mergeFirst a i b j before =

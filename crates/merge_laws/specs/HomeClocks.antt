@@ -1,5 +1,5 @@
--- Of every output that an accepted merge may leave: it is the only day of a sound trace, whose replay is accepted, and each record meets the clock that it
--- had at home. Rests on what holds of every merged day, and on days whose clocks are in order.
+-- Of every output that an accepted merge may leave: it is the only day of a sound trace, whose replay is accepted, and each record meets the
+-- clock that it had at home. Rests on what holds of every merged day, and on days whose clocks are in order.
 use mathlib.Core.Bool.{Bool, true}
 use mathlib.Core.Path.{_≡_, refl, sym, ap, subst, _∙_}
 use mathlib.Core.List.{List, map}

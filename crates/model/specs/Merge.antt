@@ -67,12 +67,14 @@ orderly before (r ∷ rs) = leb before (clockAfter before r) && (leb (clockAfter
 unfoldable pub mergeable : List Record → Bool  -- SPECIFICATION 19.3: a day that may be merged
 mergeable rs = opensWithClock rs && orderly 0 rs
 
+abbrev pub orderRefusals : List ℕ → List ℕ → ℕ → List (Bool × ℕ)  -- SPECIFICATION 19.3: of the words of two days, with so many words for the output
+orderRefusals xs ys room =
+    (not (mergeable (recordsOf xs)), 16) ∷ (not (mergeable (recordsOf ys)), 16) ∷ (not (eqb room (length xs + length ys)), 17) ∷ []
+
 abbrev pub mergeRefusals : List ℕ → ℕ → List ℕ → ℕ → ℕ → List (Bool × ℕ)  -- SPECIFICATION 19.3: of day i of trace a and day j of trace b, with so many words for the output
 mergeRefusals a i b j room =
-    let xs = dayPart a i in
-    let ys = dayPart b j in
     (not (soundTrace a), 13) ∷ (not (soundTrace b), 13) ∷ (not (ltb i (dayCount a)), 14) ∷ (not (ltb j (dayCount b)), 14)
-    ∷ (not (mergeable (recordsOf xs)), 16) ∷ (not (mergeable (recordsOf ys)), 16) ∷ (not (eqb room (length xs + length ys)), 17) ∷ []
+    ∷ orderRefusals (dayPart a i) (dayPart b j) room
 
 abbrev pub mergeReply : List ℕ → ℕ → List ℕ → ℕ → ℕ → Reply  -- SPECIFICATION 19.4
 mergeReply a i b j room = numberOnly (firstOf (mergeRefusals a i b j room))

@@ -1,6 +1,8 @@
 //! Drawn merges: nearly half are accepted, each refusal comes alone and together with others, and days have
 //! many equal clocks and records.
 
+use std::collections::BTreeSet;
+
 use draw::merge::{book, met, Drawn, BOOKS};
 use draw::random::Random;
 use draw::shapes::{draw_short, within, EXAMPLE};
@@ -32,10 +34,7 @@ fn every_kind_is_drawn() {
 #[test]
 fn every_kind_has_a_name_of_its_own() {
     let all = met::all();
-    let mut names = all.clone();
-    names.sort();
-    names.dedup();
-    assert_eq!(names.len(), all.len());
+    assert_eq!(all.iter().collect::<BTreeSet<_>>().len(), all.len());
 }
 
 /// Both sides name the same words where there is one trace.

@@ -1,5 +1,7 @@
 //! Drawn traces: sound ones are sound and mostly accepted, damage breaks them in every way.
 
+use std::collections::BTreeSet;
+
 use draw::book::Book;
 use draw::random::Random;
 use draw::shapes::{within, EXAMPLE};
@@ -160,10 +162,7 @@ fn kinds_of_refusals() {
 #[test]
 fn every_kind_has_a_name_of_its_own() {
     let all = met::all();
-    let mut names = all.clone();
-    names.sort();
-    names.dedup();
-    assert_eq!(names.len(), all.len());
+    assert_eq!(all.iter().collect::<BTreeSet<_>>().len(), all.len());
     let random = &mut Random::new(5);
     for _ in 0..2_000 {
         let drawn = Drawn::draw(random, within(EXAMPLE), &made());

@@ -13,10 +13,12 @@ use Rattle.model.specs.Block.{covers}
 use Rattle.model.specs.Calls.{perform}
 use Rattle.model.specs.Trace.{recordsOf, callOf, foundDay}
 use Rattle.model.specs.Replay.{withAnswers, replayCalls, replay}
-use Rattle.model.specs.Ledger.{Ledger, ledgerOf, enter}
+use Rattle.model.specs.Ground.{ground}
+use Rattle.model.specs.Ledger.{Ledger, ledgerOf, volumeOf, ofGrade, ofWindow, enter}
 
-pub record Turn : Type 0 where  -- SPECIFICATION 9.1, one call of a run: the ledger before it, the book's reply and the ledger's
+pub record Turn : Type 0 where  -- SPECIFICATION 9.1, one call of a run: the words and the ledger before it, the book's reply and the ledger's
   pub call : Call
+  pub words : List ℕ
   pub ledger : Ledger
   pub book : Reply
   pub exact : Reply
@@ -26,7 +28,7 @@ runCalls ws l [] = []
 runCalls ws l (call ∷ calls) =
     let done = perform ws call in
     let noted = enter (length ws) l call in
-    record { call = call; ledger = l; book = done .reply; exact = noted .reply } ∷ runCalls (done .left) (noted .left) calls
+    record { call = call; words = ws; ledger = l; book = done .reply; exact = noted .reply } ∷ runCalls (done .left) (noted .left) calls
 
 abbrev pub ledgerBy : List ℕ → Ledger → List Call → Ledger  -- SPECIFICATION 9.1: the ledger after these calls; of the words it is told only how many each call is lent
 ledgerBy ws l [] = l
@@ -70,6 +72,18 @@ Bound t =
     let s = t .ledger .shape in
     OfQuery (λ grade window. t .book .number ≡ 0 → s .k + 1 < s .n → Admits (s .n) (s .k) (getD (t .book .values) 0 0) (getD (t .exact .values) 0 0)) (t .call)
 
+pub record Near (limit x y : ℕ) : Type 0 where  -- x and y differ by at most the limit
+  pub above : x ≤ y + limit
+  pub below : y ≤ x + limit
+
+abbrev pub Grounds : Turn → Type 0  -- SPECIFICATION 9.7: an answered question has a ground, and the ledger's sum of the grade's entries in the window differs from the ground's sum by at most its limit, whatever n is
+Grounds t =
+    let l = t .ledger in
+    OfQuery (λ grade window. t .book .number ≡ 0 →
+    let given = ground (t .words) grade window in
+    (given .number ≡ 0)
+    × Near (getD (given .values) 2 0) (getD (given .values) 0 0) (volumeOf (ofWindow (l .clock) (ofGrade grade) window) (l .entries))) (t .call)
+
 abbrev pub Span : (Turn → Type 0) → List Turn → Type 0  -- SPECIFICATION 9.4: P holds of every turn up to the next accepted make, which ends the span
 Span P [] = Unit {0}
 Span P (t ∷ ts) = let here = P t × Span P ts in ByCall ((t .book .number ≡ 0 → ⊥) → here) here (λ stamp. here) (λ grade window. here) (t .call)
@@ -85,6 +99,7 @@ pub record Kept (turns : List Turn) : Type 0 where  -- what holds of a run
   pub same : Each (λ t. t .book .number ≡ t .exact .number) turns  -- SPECIFICATION 9.2: both accept, or both refuse under the same number
   pub bound : Each Bound turns
   pub missed : Missed turns
+  pub grounds : Each Grounds turns
 
 pub record ReplayTurns (ws : List ℕ) (turns : List Turn) (trace : List ℕ) (day : ℕ) (answers : List ℕ) : Type 0 where  -- SPECIFICATION 9.6, a replay
   -- its turns are the calls of the found day's records; a refused one has none

@@ -8,6 +8,7 @@ pub mod Reply
 pub mod Calls
 pub mod Trace
 pub mod Replay
+pub mod Ground
 pub mod Ledger
 pub mod Claim
 pub mod Merge
@@ -16,3 +17,4 @@ pub mod Table
 pub mod SplitsTable
 pub mod TraceTable
 pub mod MergeTable
+pub mod GroundTable

@@ -1,5 +1,5 @@
 // A call with its numbers, which may be any; why a call, finding a day, a replay or a merge is refused (SPECIFICATION 6.2, in the order of the
-// numbers 1 to 17); the answer to a call; and a record of a trace (SPECIFICATION 16.2).
+// numbers 1 to 17); the answer to a call; the ground of a sum (SPECIFICATION 20); and a record of a trace (SPECIFICATION 16.2).
 pub enum Call {
     Make { k: u32, n: u32, m: u32, g: u32 },
     Clock { clock: u32 },
@@ -31,6 +31,26 @@ pub enum Answer {
     Done, // A make, a clock, a replay or a merge.
     Splits(u32), // A delivery: how many buckets it split.
     Sum(u64), // A question.
+    Refused(Refusal),
+}
+
+// What stands for F of the next finer level than the one used.
+pub enum Finer {
+    WindowZero, // The window is 0, so no level was read.
+    LevelZero, // Level 0 was used for another window; no level is finer.
+    First(u32), // F of the next finer level.
+}
+
+// The ground of a sum: the level used, and the limit of error.
+pub struct Ground {
+    pub sum: u64,
+    pub level: u8,
+    pub limit: u64,
+    pub finer: Finer,
+}
+
+pub enum Grounded {
+    Given(Ground),
     Refused(Refusal),
 }
 

@@ -3,7 +3,7 @@ use mathlib.Core.Bool.{Bool, true, false, cond, _&&_}
 use mathlib.Core.List.{List}
 use mathlib.Core.Path.{_≡_, ap, _∙_}
 use Prim.Native.Nat.{ℕ, suc, _+_, _-_, _*_, _%_, _^_, _≤_, _<_}
-use native.Mathlib.Nat.{zero-add, sub-zero, mul-le-mul-right}
+use native.Mathlib.Nat.{sub-zero, mul-le-mul-right}
 use native.Mathlib.Numerals.{add-one}
 use native.Mathlib.Omega.{arith}
 use lib.ListN.{length, getD}
@@ -103,8 +103,8 @@ module _ (s : Shape) (ws : List ℕ) (w : Whole s ws) (parity : ℕ) (p : parity
       (servingIndex a levels ≤ s .last) × (levelAt s parity ws (servingIndex a levels) ≡ serving a levels)
   unfolding decodeHalf
   index-serves a =
-      let r = serving-index a (levelAt s parity ws) (s .last) 0 (rw zero-add last-first) in
-      (r .0, rw zero-add at (r .1))
+      let r = serving-index a (levelAt s parity ws) (s .last) last-first in
+      (r .0, r .1)
 
 -- the answer, read from the words
 pub answer-decode : (s : Shape) (clock start : ℕ) (ws : List ℕ) → answer s clock start (decodeBlock s ws) ≡ (

@@ -24,7 +24,7 @@ fn capacity(s: Shape) -> u64
 }
 
 // The words of a level, in the half of a parity.
-fn level_at(block: &[u32], s: Shape, parity: u8, i: u8) -> &[u32]
+pub fn level_at(block: &[u32], s: Shape, parity: u8, i: u8) -> &[u32]
     requires { ⌜ LevelIn s parity i (now block) ⌝ }
     ensures { λ r. ⌜ now r ≡ levelPart s parity i (now (block .entry)) ⌝ }
 {
@@ -82,7 +82,7 @@ pub fn check(block: &[u32], s: Shape) -> bool
 }
 
 // The finest level of a half whose F is at most a. The last level has F = 0, so it is not tested.
-fn finest(block: &[u32], s: Shape, parity: u8, a: u32) -> u8
+pub fn finest(block: &[u32], s: Shape, parity: u8, a: u32) -> u8
     requires { ⌜ Whole s (now block) × (parity ≤ 1) ⌝ }
     ensures { λ r. ⌜ r ≡ servingIndex a (decodeHalf s parity (now (block .entry)) .levels) ⌝ }
 {

@@ -2,7 +2,7 @@
 use mathlib.Core.Bool.{true}
 use mathlib.Core.Path.{_≡_, refl, ap, _∙_}
 use mathlib.Core.List.{List, [], _∷_, _++_, append-assoc}
-use Prim.Native.Nat.{ℕ, zero, suc, _+_, _-_, _/_, _%_, _≤_, _<_}
+use Prim.Native.Nat.{ℕ, suc, _+_, _-_, _/_, _%_, _≤_, _<_}
 use native.Mathlib.Nat.{sub-zero}
 use native.Mathlib.Numerals.{add-one}
 use native.Mathlib.Omega.{arith}
@@ -13,6 +13,7 @@ use Rattle.shape.specs.LimitsLaws.{both}
 use Rattle.model.specs.declared.Record.{Record}
 use Rattle.model.specs.Block.{upFrom}
 use Rattle.model.specs.Trace.{recordWords, recordAt, recordsOf, soundDay}
+use Rattle.laws.specs.Parts.{length-upFrom}
 
 -- ---- the records from record i on
 
@@ -35,10 +36,6 @@ module _ (day : List ℕ) (i : ℕ) where
   recordsFrom-end h =
       let left : recordCount day - i ≡ 0 = omega arith in
       ap (upFrom (recordAt day) i) left
-
-length-upFrom : {A : Type 0} (f : ℕ → A) (i c : ℕ) → length (upFrom f i c) ≡ c
-length-upFrom f i zero = refl
-length-upFrom f i (suc c) = omega (arith, length-upFrom f (suc i) c)
 
 -- how many records the words have
 pub length-records : (day : List ℕ) → length (recordsOf day) ≡ recordCount day

@@ -19,7 +19,7 @@ use Rattle.model.specs.Sound.{allFrom, maxClock, soundHead, soundBlock}
 use Rattle.model.specs.Calls.{View, firstOf, opened, refusals, bookView}
 use Rattle.model.specs.Reply.{numberOf}
 use Rattle.laws.specs.Proper.{Proper, Whole}
-use Rattle.laws.specs.Refusals.{numberOf-pos, viewOf, opened-accepted}
+use Rattle.laws.specs.Refusals.{numberOf-pos, viewOf, opened-accepted, AcceptedQuery, accepted-query}
 use Rattle.model.specs.Claim.{ByCall}
 use Rattle.laws.specs.BookWords.{head-proper, soundHead-clock, length-blockPart}
 use Rattle.book.specs.declared.head.Opened.the-variants.{Book}
@@ -178,3 +178,17 @@ judges-open ws s clock call b j = record {
   same = j .1;
   now = j .2;
 }
+
+-- ---- an accepted question of an open book: its grade is one of the book, and its block is sound
+
+module _ (ws : List ℕ) (s : Shape) (clock grade window : ℕ) (o : Open ws s clock) (h : firstRefusal ws (Query grade window) ≡ 0) where
+  facts : AcceptedQuery (bookView ws) grade window
+  facts = accepted-query (bookView ws) grade window h
+
+  pub query-inside : grade < s .g
+  unfolding bookView
+  query-inside = rw (o .same) (facts .inside)
+
+  pub query-sound : soundBlock s (blockPart s grade ws) ≡ true
+  unfolding bookView
+  query-sound = rw (o .same) (facts .sound)

@@ -10,7 +10,7 @@ use lib.Pow.{pow-pos}
 use lib.ListN.{length}
 use Rattle.model.specs.Level.{Bucket, bucketOf, gained, add}
 use Rattle.model.specs.Sound.{weightOf}
-use Rattle.laws.specs.Cond.{Near}
+use Rattle.model.specs.Claim.{Near}
 use Rattle.laws.specs.Bucket.{by-holds, by-split}
 use Rattle.laws.specs.SumFrom.{more, Falling, share-all, share-none, more-falls, AtLeast}
 

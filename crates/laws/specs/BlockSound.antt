@@ -1,23 +1,25 @@
 -- Delivery and clock keep a sound block sound, grown or not; and on every sound half some level serves each opening.
 -- Rests on the soundness of one level being kept.
 use mathlib.Core.Bool.{true}
-use mathlib.Core.Path.{_≡_, refl, ap, _∙_}
+use mathlib.Core.Path.{_≡_, refl, sym, ap, _∙_}
 use mathlib.Core.Logic.{⊎-elim}
-use mathlib.Core.List.{_∷_}
+use mathlib.Core.List.{List, [], _∷_}
 use Prim.Native.Nat.{ℕ, zero, suc, _+_, _*_, _%_, _^_, _≤_, _<_}
-use native.Mathlib.Nat.{mul-le-mul-right, mod-lt, add-zero, add-suc, suc-add}
+use native.Mathlib.Nat.{zero-add, mul-le-mul-right, mod-lt}
 use native.Mathlib.Omega.{arith}
 use lib.Dec.{eqb}
 use lib.Pow.{pow-pos}
-use lib.ListN.{length}
+use lib.ListN.{length, getD}
 use borrow.Author.Tests.{le-leb, lt-leb}
 use Rattle.shape.specs.declared.Shape.{Shape}
 use Rattle.shape.specs.Layout.{blockWords}
-use Rattle.model.specs.Level.{Level, insert, emptyLevel}
+use Rattle.model.specs.Level.{Level, levelOf, insert, emptyLevel}
 use Rattle.model.specs.Block.{Half, Block, upFrom, emptyHalf, insertAll, deliverHalf, deliver, halfOf, interval, offsetOf, advance, empties, serving, servingIndex}
 use Rattle.model.specs.Words.{encodeBlock}
 use Rattle.model.specs.Sound.{soundBlock}
-use Rattle.laws.specs.Cond.{by-test, by-le, lt-or-ge}
+use Rattle.model.specs.Ground.{firstAt, Finest}
+use Rattle.laws.specs.Cond.{by-test, lt-or-ge}
+use Rattle.laws.specs.Parts.{length-upFrom, getD-upFrom}
 use Rattle.laws.specs.SoundLevel.{SoundLevel, sound-tests}
 use Rattle.laws.specs.InsertSound.{empty-sound, insert-sound, sound-serves}
 use Rattle.laws.specs.BlockWords.{HalfSound, sound-sized, length-encodeBlock, soundBlock-encode}
@@ -32,27 +34,55 @@ pub insertAll-upFrom : (n x v : ℕ) (f : ℕ → Level) (i c : ℕ) → insertA
 insertAll-upFrom n x v f i zero = refl
 insertAll-upFrom n x v f i (suc c) = ap (λ ls. insert n i x v (f i) ∷ ls) (insertAll-upFrom n x v f (suc i) c)
 
--- l is the first of the levels i to last whose F is at most a
-pub record Served (a : ℕ) (f : ℕ → Level) (i last : ℕ) (l : Level) : Type 0 where
-  pub index : ℕ
-  pub low : i ≤ index
-  pub high : index ≤ last
-  pub same : l ≡ f index
-  pub held : f index .first ≤ a
-  pub finer : (j : ℕ) → i ≤ j → j < index → a < f j .first
+-- level i is the finest with F at most a, and it is the level l
+pub record Serves (a : ℕ) (levels : List Level) (i : ℕ) (l : Level) : Type 0 where
+  pub finest : Finest a levels i
+  pub same : getD levels i (levelOf 0 []) ≡ l
 
--- of levels i to i + d, if the last has evicted nothing, the one of the serving index serves
-pub serving-index : (a : ℕ) (f : ℕ → Level) (d i : ℕ) → f (i + d) .first ≡ 0
-    → (servingIndex a (upFrom f i (suc d)) ≤ d) × (f (i + servingIndex a (upFrom f i (suc d))) ≡ serving a (upFrom f i (suc d)))
-serving-index a f zero i whole = rw (le-leb (f i .first) a (omega (arith, rw add-zero at whole))) (omega arith, ap f {x = i + 0} {y = i} (omega arith))
-serving-index a f (suc d) i whole =
+module _ (a : ℕ) (l : Level) (ls : List Level) where
+  serves-here : l .first ≤ a → Serves a (l ∷ ls) 0 l
+  serves-here h = record { finest = record { among = omega arith; held = h; finer = λ j before. absurd (omega arith) }; same = refl }
+
+  serves-later : a < l .first → (i : ℕ) (m : Level) → Serves a ls i m → Serves a (l ∷ ls) (suc i) m
+  serves-later above i m r = record {
+    finest = record { among = omega (arith, r .finest .among); held = r .finest .held; finer = finer };
+    same = r .same;
+  }
+    where
+      finer : (j : ℕ) → j < suc i → a < firstAt (l ∷ ls) j
+      finer zero before = above
+      finer (suc j) before = r .finest .finer j (omega arith)
+
+-- so it is with the level of the serving index and the one that serves, if any level has F at most a
+pub serves : (a : ℕ) (levels : List Level) (i : ℕ) → i < length levels → firstAt levels i ≤ a → Serves a levels (servingIndex a levels) (serving a levels)
+serves a [] i h held = absurd (omega arith)
+serves a (l ∷ ls) zero h held = rw (le-leb (l .first) a held) (serves-here a l ls held)
+serves a (l ∷ ls) (suc i) h held =
     ⊎-elim
-    (λ (above : a < f i .first).
-    let r = serving-index a f d (suc i) (rw (add-suc, ← suc-add) at whole) in
-    let next : ℕ = servingIndex a (upFrom f (suc i) (suc d)) in
-    rw (lt-leb (f i .first) a above) (omega (arith, r .0), ap f {x = i + suc next} {y = suc i + next} (omega arith) ∙ r .1))
-    (λ (held : f i .first ≤ a). rw (le-leb (f i .first) a held) (omega arith, ap f {x = i + 0} {y = i} (omega arith)))
-    (lt-or-ge a (f i .first))
+    (λ (above : a < l .first).
+    rw (lt-leb (l .first) a above) (serves-later a l ls above (servingIndex a ls) (serving a ls) (serves a ls i (omega arith) held)))
+    (λ (here : l .first ≤ a). rw (le-leb (l .first) a here) (serves-here a l ls here))
+    (lt-or-ge a (l .first))
+
+-- levels 0 to `last`, of which the last has evicted nothing
+module _ (a : ℕ) (f : ℕ → Level) (last : ℕ) (whole : f last .first ≡ 0) where
+  abbrev levels : List Level
+  levels = upFrom f 0 (suc last)
+
+  level-is : (i : ℕ) → i ≤ last → getD levels i (levelOf 0 []) ≡ f i
+  level-is i h = rw zero-add at (getD-upFrom f 0 (suc last) i (levelOf 0 []) (omega arith))
+
+  serves-upFrom : Serves a levels (servingIndex a levels) (serving a levels)
+  serves-upFrom =
+      serves a levels last (omega (arith, length-upFrom f 0 (suc last))) (rw (level-is last (omega arith)) (omega (arith, whole)))
+
+  -- the serving index is that of one of them, and this one serves
+  pub serving-index : let i = servingIndex a levels in (i ≤ last) × (f i ≡ serving a levels) × (f i .first ≤ a)
+  serving-index =
+      let i : ℕ = servingIndex a levels in
+      let r = serves-upFrom in
+      let low : i ≤ last = omega (arith, r .finest .among, length-upFrom f 0 (suc last)) in
+      (low, sym (level-is i low) ∙ r .same, rw (level-is i low, firstAt) at (r .finest .held))
 
 module _ (s : Shape) (proper : Proper s) where
   -- an empty half is sound
@@ -81,7 +111,7 @@ module _ (s : Shape) (proper : Proper s) where
   abbrev pub Both : Block → Type 0
   Both b = HalfSound s (b .even) × HalfSound s (b .odd)
 
-  both-half : (j : ℕ) (b : Block) → Both b → HalfSound s (halfOf j b)
+  pub both-half : (j : ℕ) (b : Block) → Both b → HalfSound s (halfOf j b)
   both-half j b y = by-test (HalfSound s) (eqb (j % 2) 0) (λ _. y .0) (λ _. y .1)
 
   pub deliver-both : (stamp v : ℕ) (b : Block) → Both b → halfOf (interval s stamp) b .total + v ≤ 2 ^ s .m → Both (deliver s stamp v b)
@@ -107,25 +137,6 @@ module _ (s : Shape) (proper : Proper s) where
 
   -- ---- some level serves
 
-  serving-found : (a : ℕ) (f : ℕ → Level) (d i : ℕ) → f (i + d) .first ≡ 0 → Served a f i (i + d) (serving a (upFrom f i (suc d)))
-  serving-found a f zero i whole =
-      by-le (f i .first) a (Served a f i (i + 0))
-      (λ h. record { index = i; low = omega arith; high = omega arith; same = refl; held = h; finer = λ j lo hi. absurd (omega arith) })
-      (λ h. absurd (omega (arith, rw add-zero at whole)))
-  serving-found a f (suc d) i whole =
-      by-le (f i .first) a (Served a f i (i + suc d))
-      (λ h. record { index = i; low = omega arith; high = omega arith; same = refl; held = h; finer = λ j lo hi. absurd (omega arith) })
-      (λ h.
-      let r = serving-found a f d (suc i) (rw (add-suc, ← suc-add) at whole) in
-      record {
-        index = r .index;
-        low = omega (arith, r .low);
-        high = omega (arith, r .high);
-        same = r .same;
-        held = r .held;
-        finer = λ j lo hi. ⊎-elim (λ (l : i < j). r .finer j l hi) (λ (g : j ≤ i). let here : j ≡ i = omega arith in rw here h) (lt-or-ge i j);
-      })
-
   -- the last level of a sound half has evicted nothing
   pub last-whole : (h : Half) (y : HalfSound s h) → y .levelAt (s .last) .first ≡ 0
   last-whole h y =
@@ -135,7 +146,5 @@ module _ (s : Shape) (proper : Proper s) where
       sound-serves (proper .limits .low-n) (half-level s h y (s .last) (omega arith)) (omega (arith, y .total, pow-pos (s .m)))
 
   -- so one of the levels serves each opening: its F is at most the opening, and no finer level's is
-  pub half-serves : (h : Half) (y : HalfSound s h) (a : ℕ) → Served a (y .levelAt) 0 (s .last) (serving a (h .levels))
-  half-serves h y a =
-      let last : 0 + s .last ≡ s .last = omega arith in
-      rw (y .levels) (rw last at (serving-found a (y .levelAt) (s .last) 0 (rw last (last-whole h y))))
+  pub half-serves : (h : Half) → HalfSound s h → (a : ℕ) → Serves a (h .levels) (servingIndex a (h .levels)) (serving a (h .levels))
+  half-serves h y a = rw (y .levels) (serves-upFrom a (y .levelAt) (s .last) (last-whole h y))

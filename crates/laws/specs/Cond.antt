@@ -1,14 +1,9 @@
--- Case distinctions by a test on numbers; tests whose outcome is known; nearness of two numbers. Assumes nothing.
+-- Case distinctions by a test on numbers; tests whose outcome is known. Assumes nothing.
 use mathlib.Core.Bool.{Bool, true, false, not, cond, _&&_}
 use mathlib.Core.Path.{_≡_, refl}
 use mathlib.Core.Logic.{_⊎_, inl, inr}
-use Prim.Native.Nat.{ℕ, _+_, _≤_, _<_}
+use Prim.Native.Nat.{ℕ, _≤_, _<_}
 use lib.Dec.{T, leb, ltb, eqb, leb→le, nleb→lt, ltb→lt, nltb→le, eqb→eq, eqb-refl, T-not}
-
--- x and y differ by at most c
-pub record Near (c x y : ℕ) : Type 0 where
-  pub above : x ≤ y + c
-  pub below : y ≤ x + c
 
 pub by-test : {A : Type 0} (P : A → Type 0) {a b : A} (t : Bool) → (T t → P a) → (T (not t) → P b) → P (cond t a b)
 by-test P true f g = f tt

@@ -28,3 +28,4 @@ pub mod InsertSound
 pub mod BlockSound
 pub mod Refusals
 pub mod SoundBook
+pub mod GroundLaws

@@ -66,6 +66,15 @@ module _ {A : Type 0} (f : ℕ → A) where
   upFrom-cong g i (suc c) e =
       rw (each-first (λ j. f j ≡ g j) i c e, upFrom-cong g (suc i) c (each-rest (λ j. f j ≡ g j) i c e))
 
+  pub length-upFrom : (i c : ℕ) → length (upFrom f i c) ≡ c
+  length-upFrom i zero = refl
+  length-upFrom i (suc c) = omega (arith, length-upFrom (suc i) c)
+
+  pub getD-upFrom : (i c j : ℕ) (other : A) → j < c → getD (upFrom f i c) j other ≡ f (i + j)
+  getD-upFrom i zero j other h = absurd (omega arith)
+  getD-upFrom i (suc c) zero other h = rw add-zero
+  getD-upFrom i (suc c) (suc j) other h = getD-upFrom (suc i) c j other (omega arith) ∙ ap f {x = suc i + j} {y = i + suc j} (omega arith)
+
   -- c values, then d more
   pub upFrom-append : (i c d : ℕ) → upFrom f i (c + d) ≡ upFrom f i c ++ upFrom f (i + c) d
   upFrom-append i zero d = rw (zero-add, add-zero)

@@ -68,9 +68,17 @@ module _ {A : Type 0} (rs : List (Bool × ℕ)) (before : A) (done : Outcome A) 
   settle-accepted h = rw (eq-eqb (firstOf rs) 0 h)
 
   -- the number of the reply is that of the first refusal that holds
-  settle-number : done .reply .number ≡ 0 → settle rs before done .reply .number ≡ firstOf rs
+  pub settle-number : done .reply .number ≡ 0 → settle rs before done .reply .number ≡ firstOf rs
   settle-number h =
       by-eq (firstOf rs) 0 (λ (o : Outcome A). o .reply .number ≡ firstOf rs) (λ none. h ∙ sym none) (λ some. refl)
+
+  -- the reply is that of what is done, or the first refusal
+  pub settle-reply : settle rs before done .reply ≡ cond (eqb (firstOf rs) 0) (done .reply) (refused (firstOf rs))
+  settle-reply = go (eqb (firstOf rs) 0)
+    where
+      go : (t : Bool) → cond t done (outcomeOf (refused (firstOf rs)) before) .reply ≡ cond t (done .reply) (refused (firstOf rs))
+      go true = refl
+      go false = refl
 
   pub settle-refused : (firstOf rs ≡ 0 → ⊥) → settle rs before done ≡ outcomeOf (refused (firstOf rs)) before
   settle-refused h = rw (ne-eqb (firstOf rs) 0 h)

@@ -1,5 +1,5 @@
--- Grades do not touch (SPECIFICATION 10): a delivery changes no word outside its grade's block and no answer to a question or a delivery of
--- another grade, on words of any content. Rests on the codec's laws and on soundness being kept.
+-- Grades do not touch (SPECIFICATION 10): a delivery changes no word outside its grade's block, no answer to a question or a delivery of
+-- another grade, and no ground of one, on words of any content. Rests on the codec's laws and on soundness being kept.
 use mathlib.Core.Bool.{Bool, true, false, cond}
 use mathlib.Core.Path.{_≡_, refl, sym, ap, ap₂, _∙_}
 use mathlib.Core.Logic.{_⊎_, inl, ⊎-elim, _≢_}
@@ -16,13 +16,14 @@ use Rattle.model.specs.declared.Call.the-variants.{Delivery, Query}
 use Rattle.model.specs.Block.{Block, interval, halfOf, windowSum, deliver, deliverSplits}
 use Rattle.model.specs.Words.{shapeOf, clockOf, blockPart, decodeBlock, encodeBlock, withBlock}
 use Rattle.model.specs.Sound.{soundHead, soundBlock}
-use Rattle.model.specs.Calls.{View, blockAt, firstOf, refusals, bookView, Outcome, outcomeOf, settle, accept, perform, delivered}
+use Rattle.model.specs.Calls.{View, blockAt, firstOf, refusals, bookView, accept, perform, delivered}
+use Rattle.model.specs.Ground.{groundOf, groundValues, ground}
 use Rattle.laws.specs.Cond.{eq-or-ne}
 use Rattle.laws.specs.Proper.{Proper}
 use Rattle.laws.specs.BlockWords.{soundBlock-decode}
 use Rattle.laws.specs.BlockSound.{deliver-both, both-size}
 use Rattle.laws.specs.BookWords.{head-proper, head-before, length-withBlock, blockPart-withBlock-other, getD-withBlock-below, getD-withBlock-above}
-use Rattle.laws.specs.Refusals.{AcceptedDelivery, accepted-delivery, settle-accepted, settle-refused}
+use Rattle.laws.specs.Refusals.{AcceptedDelivery, accepted-delivery, settle-accepted, settle-reply, settle-refused}
 
 -- ---- what the reply to a call of one grade depends on: the length, the head and the words of the grade's block
 
@@ -41,35 +42,38 @@ blockView lent headSound s clock block = record {
 abbrev judged : View → Call → Reply → Reply
 judged v call done = let number = firstOf (refusals v call) in cond (eqb number 0) done (refused number)
 
--- a call whose reply depends on nothing else, and what it replies if it is accepted
-record OfGrade (grade : ℕ) (call : Call) : Type 0 where
+-- a reply that depends on nothing else: the call by which it is judged, and what it is if this call is accepted
+record OfGrade (grade : ℕ) (reply : List ℕ → Reply) : Type 0 where
+  pub call : Call
   pub done : Shape → ℕ → Block → Reply
   pub told : (ws : List ℕ) → let s = shapeOf ws in
-      perform ws call .reply ≡ judged (blockView (length ws) (soundHead ws) s (clockOf ws) (blockPart s grade ws)) call (done s (clockOf ws) (blockAt ws grade))
+      reply ws ≡ judged (blockView (length ws) (soundHead ws) s (clockOf ws) (blockPart s grade ws)) call (done s (clockOf ws) (blockAt ws grade))
 
--- the reply of an outcome that is settled by its refusals
-settled : {A : Type 0} (rs : List (Bool × ℕ)) (before : A) (done : Outcome A) → settle rs before done .reply ≡ cond (eqb (firstOf rs) 0) (done .reply) (refused (firstOf rs))
-settled rs before done = go (eqb (firstOf rs) 0)
-  where
-    go : (t : Bool) → cond t done (outcomeOf (refused (firstOf rs)) before) .reply ≡ cond t (done .reply) (refused (firstOf rs))
-    go true = refl
-    go false = refl
-
-of-question : (grade window : ℕ) → OfGrade grade (Query grade window)
+of-question : (grade window : ℕ) → OfGrade grade (λ ws. perform ws (Query grade window) .reply)
 unfolding perform refusals bookView
 of-question grade window = record {
+  call = Query grade window;
   done = λ s clock b. accepted (windowSum s clock window b ∷ []);
-  told = λ ws. settled (refusals (bookView ws) (Query grade window)) ws (accept ws (Query grade window));
+  told = λ ws. settle-reply (refusals (bookView ws) (Query grade window)) ws (accept ws (Query grade window));
 }
 
-of-delivery : (grade stamp volume : ℕ) → OfGrade grade (Delivery grade stamp volume)
+of-ground : (grade window : ℕ) → OfGrade grade (λ ws. ground ws grade window)
+unfolding ground refusals bookView
+of-ground grade window = record {
+  call = Query grade window;
+  done = λ s clock b. accepted (groundValues (groundOf s clock window b));
+  told = λ ws. settle-reply (refusals (bookView ws) (Query grade window)) ws _;
+}
+
+of-delivery : (grade stamp volume : ℕ) → OfGrade grade (λ ws. perform ws (Delivery grade stamp volume) .reply)
 unfolding perform refusals bookView
 of-delivery grade stamp volume = record {
+  call = Delivery grade stamp volume;
   done = λ s clock b. splitting (deliverSplits s stamp volume b);
-  told = λ ws. settled (refusals (bookView ws) (Delivery grade stamp volume)) ws (accept ws (Delivery grade stamp volume));
+  told = λ ws. settle-reply (refusals (bookView ws) (Delivery grade stamp volume)) ws (accept ws (Delivery grade stamp volume));
 }
 
--- words that agree in length, in the head and in the grade's block give the same replies to its calls
+-- words that agree in length, in the head and in the grade's block give the same such replies
 module _ (ws vs : List ℕ) (lengths : length vs ≡ length ws) (heads : (i : ℕ) → i < headLen → getD vs i 0 ≡ getD ws i 0) where
   shape-same : shapeOf vs ≡ shapeOf ws
   shape-same = rw (heads 0 (omega arith), heads 1 (omega arith), heads 2 (omega arith), heads 3 (omega arith))
@@ -87,11 +91,11 @@ module _ (ws vs : List ℕ) (lengths : length vs ≡ length ws) (heads : (i : �
     heads 7 (omega arith),
   )
 
-  reply-same : (grade : ℕ) (call : Call) → OfGrade grade call → blockPart (shapeOf ws) grade vs ≡ blockPart (shapeOf ws) grade ws → perform vs call .reply ≡ perform ws call .reply
-  reply-same grade call of parts =
-      let reply : Shape → List ℕ → Reply = λ s block. judged (blockView (length ws) (soundHead ws) s (clockOf ws) block) call (of .done s (clockOf ws) (decodeBlock s block)) in
+  reply-same : (grade : ℕ) (reply : List ℕ → Reply) → OfGrade grade reply → blockPart (shapeOf ws) grade vs ≡ blockPart (shapeOf ws) grade ws → reply vs ≡ reply ws
+  reply-same grade reply of parts =
+      let by : Shape → List ℕ → Reply = λ s block. judged (blockView (length ws) (soundHead ws) s (clockOf ws) block) (of .call) (of .done s (clockOf ws) (decodeBlock s block)) in
       let part : blockPart (shapeOf vs) grade vs ≡ blockPart (shapeOf ws) grade ws = ap (λ (s : Shape). blockPart s grade vs) shape-same ∙ parts in
-      of .told vs ∙ rw (lengths, head-same, heads 4 (omega arith)) (ap₂ reply shape-same part) ∙ sym (of .told ws)
+      of .told vs ∙ rw (lengths, head-same, heads 4 (omega arith)) (ap₂ by shape-same part) ∙ sym (of .told ws)
 
 -- ---- a delivery, on any words
 
@@ -158,14 +162,18 @@ module _ (ws : List ℕ) (grade stamp volume : ℕ) where
       (λ (h : number ≡ 0 → ⊥). rw (after-refused h))
       (eq-or-ne number 0)
 
-  apart-replies : (other : ℕ) (call : Call) → other ≢ grade → OfGrade other call → perform after call .reply ≡ perform ws call .reply
-  apart-replies other call apart of =
-      reply-same ws after (apart-words .0) (λ i low. apart-words .1 i (inl (omega (arith, head-before s grade)))) other call of (apart-block other apart)
+  apart-replies : (other : ℕ) (reply : List ℕ → Reply) → other ≢ grade → OfGrade other reply → reply after ≡ reply ws
+  apart-replies other reply apart of =
+      reply-same ws after (apart-words .0) (λ i low. apart-words .1 i (inl (omega (arith, head-before s grade)))) other reply of (apart-block other apart)
 
   -- no reply to a question of another grade changes, whatever the words and the window are
   pub apart-answers : (other window : ℕ) → other ≢ grade → perform after (Query other window) .reply ≡ perform ws (Query other window) .reply
-  apart-answers other window apart = apart-replies other (Query other window) apart (of-question other window)
+  apart-answers other window apart = apart-replies other (λ vs. perform vs (Query other window) .reply) apart (of-question other window)
+
+  -- nor does a ground of another grade
+  pub apart-grounds : (other window : ℕ) → other ≢ grade → ground after other window ≡ ground ws other window
+  apart-grounds other window apart = apart-replies other (λ vs. ground vs other window) apart (of-ground other window)
 
   -- nor does the reply to a delivery of another grade: neither its number nor its splits
   pub apart-splits : (other at v : ℕ) → other ≢ grade → perform after (Delivery other at v) .reply ≡ perform ws (Delivery other at v) .reply
-  apart-splits other at v apart = apart-replies other (Delivery other at v) apart (of-delivery other at v)
+  apart-splits other at v apart = apart-replies other (λ vs. perform vs (Delivery other at v) .reply) apart (of-delivery other at v)

@@ -1,5 +1,5 @@
 -- The claim (demand 3): `Claim` of the model, by one induction over the calls of the list. The invariant is that the words are those of the
--- ledger. Rests on `agree` (the same first refusal), on what each accepted call leaves, and on the bound of an answer.
+-- ledger. Rests on `agree` (the same first refusal), on what each accepted call leaves, and on the bound and the limit of an answer.
 use mathlib.Core.Bool.{true}
 use mathlib.Core.Path.{_≡_, refl, sym, ap, ap₂, _∙_}
 use mathlib.Core.Logic.{⊎-elim}
@@ -10,22 +10,24 @@ use native.Mathlib.Omega.{arith}
 use lib.ListN.{length, getD}
 use borrow.Author.Tests.{le-leb, leb-true}
 use Rattle.shape.specs.declared.Shape.{Shape}
-use Rattle.shape.specs.Limits.{shaped}
+use Rattle.shape.specs.Limits.{accepted, shaped}
 use Rattle.model.specs.declared.Call.{Call}
 use Rattle.model.specs.declared.Call.the-variants.{Make, Clock, Delivery, Query}
-use Rattle.model.specs.Block.{late, windowSum}
+use Rattle.model.specs.Block.{Block, late, windowSum}
 use Rattle.model.specs.Words.{shapeOf, clockOf}
 use Rattle.model.specs.Calls.{View, blockAt, firstOf, refusals, bookView, accept, perform, clocked, delivered}
 use Rattle.model.specs.Ledger.{Entry, Ledger, ledgerOf, volumeOf, ofGrade, ofWindow, ledgerView, note, enter}
-use Rattle.model.specs.Claim.{Turn, runCalls, ByCall, Admits, Bound, Span, Outside, Kept, Claim}
+use Rattle.model.specs.Ground.{groundOf, groundValues, ground}
+use Rattle.model.specs.Claim.{Turn, runCalls, ByCall, Admits, Bound, Grounds, Span, Outside, Kept, Claim}
 use Rattle.laws.specs.Cond.{eq-or-ne}
 use Rattle.laws.specs.Refusals.{accepted-make, accepted-clock, accepted-delivery, accepted-query, late-delivery, settle-accepted, settle-refused, perform-number, enter-number}
+use Rattle.laws.specs.GroundLaws.{ground-given}
 use Rattle.ledger.specs.Time.{late-outside}
 use Rattle.ledger.specs.Book.{blockFor}
 use Rattle.ledger.specs.State.{Good, wordsOf, words-shape, words-clock}
 use Rattle.ledger.specs.Agree.{agree}
 use Rattle.ledger.specs.Next.{made-words, made-good, block-is, clocked-words, clocked-good, delivered-words, delivered-good}
-use Rattle.ledger.specs.Window.{sum-admits}
+use Rattle.ledger.specs.Window.{sum-admits, sum-limited}
 use Rattle.ledger.specs.Steps.{expand, run-expand, each-as-turns}
 
 -- what a call leads to: the ledger afterwards, whose words are then the book's; within a span k stays and the clock does not fall
@@ -147,11 +149,12 @@ module _ (l : Ledger) (good : Good l) where
   -- ---- one turn
 
   abbrev turn : Call → Turn
-  turn call = record { call = call; ledger = l; book = perform ws call .reply; exact = enter (length ws) l call .reply }
+  turn call = record { call = call; words = ws; ledger = l; book = perform ws call .reply; exact = enter (length ws) l call .reply }
 
-  sum-is : (grade window : ℕ) → grade < s .g
-      → windowSum (shapeOf ws) (clockOf ws) window (blockAt ws grade) ≡ windowSum s clock window (blockFor s clock es (ofGrade grade))
-  sum-is grade window h = rw (words-clock l good) (ap₂ (λ (z : Shape). windowSum z clock window) (words-shape l good) (block-is l good grade h))
+  -- what depends on the shape, the clock and the block of a grade depends on the ledger's
+  of-ledger : {A : Type 0} (f : Shape → ℕ → Block → A) (grade : ℕ) → grade < s .g
+      → f (shapeOf ws) (clockOf ws) (blockAt ws grade) ≡ f s clock (blockFor s clock es (ofGrade grade))
+  of-ledger f grade h = rw (words-clock l good) (ap₂ (λ (z : Shape). f z clock) (words-shape l good) (block-is l good grade h))
 
   -- if a relation holds of the two sums, it holds of the replies to an answered question
   query-relates : (grade window : ℕ) (R : ℕ → ℕ → Type 0) → turn (Query grade window) .book .number ≡ 0
@@ -163,17 +166,34 @@ module _ (l : Ledger) (good : Good l) where
       let call : Call = Query grade window in
       let h : first call ≡ 0 = sym (perform-number ws call) ∙ number in
       let facts = accepted-query exactView grade window (exact-first call h) in
-      rw (book-accepted call h, exact-accepted call h, sum-is grade window (facts .inside)) (held (facts .inside) (facts .short))
+      rw (book-accepted call h, exact-accepted call h, of-ledger (λ z c. windowSum z c window) grade (facts .inside)) (held (facts .inside) (facts .short))
 
   query-bound : (grade window : ℕ) → Bound (turn (Query grade window))
   query-bound grade window number room =
       query-relates grade window (Admits (s .n) (s .k)) number (λ _. sum-admits l good (ofGrade grade) (good .few grade) room window)
+
+  query-grounds : (grade window : ℕ) → Grounds (turn (Query grade window))
+  unfolding ledgerView groundOf
+  query-grounds grade window number =
+      let call : Call = Query grade window in
+      let h : first call ≡ 0 = sym (perform-number ws call) ∙ number in
+      let facts = accepted-query exactView grade window (exact-first call h) in
+      let same : ground ws grade window ≡ accepted (groundValues (groundOf s clock window (blockFor s clock es (ofGrade grade)))) =
+      ground-given ws grade window h ∙ of-ledger (λ z c b. accepted (groundValues (groundOf z c window b))) grade (facts .inside) in
+      rw same
+      (refl, sum-limited l good (ofGrade grade) (good .few grade) window (facts .short))
 
   turn-bound : (call : Call) → Bound (turn call)
   turn-bound (Make k′ n′ m′ g′) = tt
   turn-bound (Clock to) = tt
   turn-bound (Delivery grade stamp volume) = tt
   turn-bound (Query grade window) = query-bound grade window
+
+  turn-grounds : (call : Call) → Grounds (turn call)
+  turn-grounds (Make k′ n′ m′ g′) = tt
+  turn-grounds (Clock to) = tt
+  turn-grounds (Delivery grade stamp volume) = tt
+  turn-grounds (Query grade window) = query-grounds grade window
 
   turn-late : (grade stamp volume : ℕ) → turn (Delivery grade stamp volume) .book .number ≡ 9 → late s clock stamp ≡ true
   unfolding ledgerView
@@ -226,7 +246,7 @@ outside (call ∷ calls) l good stamp h =
 
 kept : (calls : List Call) (l : Ledger) → Good l → Kept (grown l calls)
 unfolding runCalls
-kept [] l good = record { same = tt; bound = tt; missed = tt }
+kept [] l good = record { same = tt; bound = tt; missed = tt; grounds = tt }
 kept (call ∷ calls) l good =
     let c = next l good call in
     let rest = kept calls (c .later) (c .good) in
@@ -234,6 +254,7 @@ kept (call ∷ calls) l good =
       same = (same-number l good call, rest .same);
       bound = (turn-bound l good call, rest .bound);
       missed = (missed-step l good call c (grown (c .later) calls) (outside calls (c .later) (c .good)), rest .missed);
+      grounds = (turn-grounds l good call, rest .grounds);
     })
 
 -- the claim, for every list of calls and replays from the words that an accepted make left on any words

@@ -28,7 +28,7 @@ runOf book ws l [] = []
 runOf book ws l (call ∷ calls) =
     let done = book ws call in
     let noted = enter (length ws) l call in
-    record { call = call; ledger = l; book = done .reply; exact = noted .reply } ∷ runOf book (done .left) (noted .left) calls
+    record { call = call; words = ws; ledger = l; book = done .reply; exact = noted .reply } ∷ runOf book (done .left) (noted .left) calls
 
 abbrev pub ClaimOf : Book → Type 0
 ClaimOf book = (before : List ℕ) (k n m g : ℕ) → book before (Make k n m g) .reply .number ≡ 0 → (calls : List Call)

@@ -1,7 +1,7 @@
 -- What a window covers, by interval and offset; and the sum of a question compared with the ledger's. Rests on the relative bound of fed
--- levels.
+-- levels, and on the limit of error of the level that serves.
 use mathlib.Core.Bool.{Bool, true, false, cond, _&&_}
-use mathlib.Core.Path.{_≡_, refl, sym, _∙_}
+use mathlib.Core.Path.{_≡_, refl, sym, subst, _∙_}
 use mathlib.Core.Logic.{⊎-elim}
 use mathlib.Core.List.{List, [], _∷_}
 use Prim.Native.Nat.{ℕ, _+_, _*_, _^_, _≤_, _<_}
@@ -10,13 +10,15 @@ use native.Mathlib.Omega.{arith}
 use lib.Dec.{leb}
 use borrow.Author.Tests.{le-leb, lt-leb, eq-eqb, ne-eqb}
 use Rattle.shape.specs.declared.Shape.{Shape}
-use Rattle.model.specs.Block.{interval, offsetOf, opening, answer, windowSum, sumFrom, serving}
+use Rattle.model.specs.Block.{Half, interval, offsetOf, opening, answer, windowSum, sumFrom, serving, servingIndex}
 use Rattle.model.specs.BlockLaws.{covers-none, windowSum-none, windowSum-some}
 use Rattle.model.specs.Ledger.{Entry, Ledger, volumeOf, ofInterval, ofWindow}
-use Rattle.model.specs.Claim.{Each, Admits}
+use Rattle.model.specs.Ground.{openedLevels, levelFor, limitOf}
+use Rattle.model.specs.Claim.{Each, Admits, Near}
 use Rattle.laws.specs.Cond.{lt-or-ge, eq-or-ne, and-false}
 use Rattle.theory.specs.Fed.{counted}
 use Rattle.theory.specs.Relative.{relative, admits-more}
+use Rattle.theory.specs.Limited.{fed-limited}
 use Rattle.ledger.specs.Time.{offset-lt, interval-mono, interval-lt, interval-near, offset-le, tick-le}
 use Rattle.ledger.specs.Grown.{events, events-inside, halfFed, halfFor, volumeOf-cong, counted-events, counted-all}
 use Rattle.ledger.specs.Book.{blockFor, halfOf-served}
@@ -152,6 +154,13 @@ module _ (s : Shape) (clock : ℕ) (p : Entry → Bool) (window : ℕ) where
 
 -- ---- the answer compared with the ledger's sum
 
+-- nearness survives adding the same on both sides
+near-more : (limit x y more : ℕ) → Near limit x y → Near limit (x + more) (y + more)
+near-more limit x y more h = omega arith
+
+near-none : {limit : ℕ} → Near limit 0 0
+near-none = omega arith
+
 module _ (l : Ledger) (good : Good l) where
   abbrev s : Shape
   s = l .shape
@@ -198,11 +207,12 @@ module _ (l : Ledger) (good : Good l) where
       rw (windowSum-some s clock window (blockFor s clock es p) other) (opened-relates R more p window some w (half some)))
       (eq-or-ne window 0)
 
-  -- the bound, if no interval of these entries has more than 2^M
+  -- if no interval of these entries has more than 2^M
   module _ (p : Entry → Bool) (few : (j : ℕ) → volumeOf (ofInterval s p j) es ≤ 2 ^ s .m) where
     small : (j : ℕ) → counted (events s (ofInterval s p j) es) 0 < s .n * 2 ^ s .last
     small j = omega (arith, counted-all s (ofInterval s p j) es, few j, good .reach)
 
+    -- the relative bound
     pub sum-admits : s .k + 1 < s .n → (window : ℕ) → window ≤ 2 ^ s .k
         → Admits (s .n) (s .k) (windowSum s clock window (blockFor s clock es p)) (volumeOf (ofWindow clock p window) es)
     unfolding halfFed
@@ -213,3 +223,31 @@ module _ (l : Ledger) (good : Good l) where
         sum-relates (Admits (s .n) (s .k)) (admits-more (s .n) (s .k)) (record { above = omega arith; below = omega arith }) p window w
         (λ _. rw (← counted-events s q a es)
         (relative (s .k) (s .n) (s .last) (events s q es) (events-inside s q es) room (small j) a (offset-lt s (opening clock window))))
+
+    -- the limit of the level that serves a window above 0
+    opened-limited : (window : ℕ) → 0 < window → window ≤ 2 ^ s .k → let b = blockFor s clock es p in
+        Near (limitOf (s .k) (servingIndex (offsetOf s (opening clock window)) (openedLevels s clock window b))) (windowSum s clock window b)
+        (volumeOf (ofWindow clock p window) es)
+    unfolding halfFed
+    opened-limited window some w =
+        let start : ℕ = opening clock window in
+        let j : ℕ = interval s start in
+        let a : ℕ = offsetOf s start in
+        let q : Entry → Bool = ofInterval s p j in
+        let limit : ℕ = limitOf (s .k) (servingIndex a (halfFor s q es .levels)) in
+        subst (λ (h : Half). Near (limitOf (s .k) (servingIndex a (h .levels))) (windowSum s clock window (blockFor s clock es p)) (volumeOf (ofWindow clock p window) es))
+        (sym (halfOf-served s clock es p j (interval-mono s (omega arith)) (interval-near s start clock (omega arith))))
+        (sum-relates (Near limit) (near-more limit) near-none p window w
+        (λ _. rw (← counted-events s q a es)
+        (fed-limited (s .k) (s .n) (good .limits .low-n) (events s q es) (events-inside s q es) a (offset-lt s start) (s .last) (small j))))
+
+    -- the limit of the level used
+    pub sum-limited : (window : ℕ) → window ≤ 2 ^ s .k → let b = blockFor s clock es p in
+        Near (limitOf (s .k) (levelFor s clock window b)) (windowSum s clock window b) (volumeOf (ofWindow clock p window) es)
+    sum-limited window w =
+        ⊎-elim
+        (λ (none : window ≡ 0).
+        rw (eq-eqb window 0 none)
+        (sum-relates (Near 0) (near-more 0) near-none p window w (λ some. absurd (omega arith))))
+        (λ (some : window ≡ 0 → ⊥). rw (ne-eqb window 0 some) (opened-limited window (omega (arith, some)) w))
+        (eq-or-ne window 0)

@@ -25,7 +25,7 @@ use Rattle.laws.specs.Proper.{Proper}
 use Rattle.laws.specs.HalfWrites.{total-decode}
 use Rattle.laws.specs.BookWords.{limits-within, head-proper, whole-block}
 use Rattle.laws.specs.Parts.{allFrom-elim, upFrom-cong, replicate-upFrom}
-use Rattle.laws.specs.Refusals.{numberOf-pos, settle-accepted, settle-refused, AcceptedClock, accepted-clock, AcceptedDelivery, accepted-delivery, AcceptedQuery, accepted-query}
+use Rattle.laws.specs.Refusals.{numberOf-pos, settle-accepted, settle-refused, AcceptedClock, accepted-clock, AcceptedDelivery, accepted-delivery}
 use Rattle.book.specs.Judgement.{firstRefusal}
 use Rattle.judge.specs.Judge.{Open, open-size, open-proper}
 use Rattle.book.specs.Part.{InBook}
@@ -146,17 +146,6 @@ module _ (ws : List ℕ) (s : Shape) (grade stamp volume : ℕ) (same : s ≡ sh
 -- ---- question
 
 module _ (ws : List ℕ) (s : Shape) (clock grade window : ℕ) (o : Open ws s clock) (h : firstRefusal ws (Query grade window) ≡ 0) where
-  facts-q : AcceptedQuery (bookView ws) grade window
-  facts-q = accepted-query (bookView ws) grade window h
-
-  pub query-inside : grade < s .g
-  unfolding bookView
-  query-inside = rw (o .same) (facts-q .inside)
-
-  pub query-sound : soundBlock s (blockPart s grade ws) ≡ true
-  unfolding bookView
-  query-sound = rw (o .same) (facts-q .sound)
-
   pub asked-outcome : outcomeOf (replyOf (Sum (windowSum s clock window (decodeBlock s (blockPart s grade ws))))) ws ≡ perform ws (Query grade window)
   unfolding replyOf
   asked-outcome = rw (o .same, o .now) (sym (accepted-outcome ws (Query grade window) h))

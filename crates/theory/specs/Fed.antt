@@ -5,8 +5,7 @@ use Prim.Native.Nat.{ℕ, _+_, _*_, _^_, _≤_, _<_}
 use native.Mathlib.Omega.{arith}
 use Rattle.model.specs.Level.{Level, insert, emptyLevel}
 use Rattle.model.specs.Block.{sumFrom}
-use Rattle.model.specs.Claim.{Each}
-use Rattle.laws.specs.Cond.{Near}
+use Rattle.model.specs.Claim.{Each, Near}
 use Rattle.laws.specs.SumFrom.{more, share-all}
 use Rattle.laws.specs.Unit.{Tracks, tracks-same, insert-tracks, empty-tracks}
 use Rattle.laws.specs.SoundLevel.{SoundLevel}

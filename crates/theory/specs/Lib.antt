@@ -1,4 +1,5 @@
 pub mod Near
 pub mod Fed
 pub mod Relative
+pub mod Limited
 pub mod Highest

@@ -9,7 +9,8 @@ use native.Mathlib.Omega.{arith}
 use Rattle.model.specs.Level.{Bucket, Level}
 use Rattle.model.specs.Block.{sumFrom}
 use Rattle.model.specs.Sound.{weightOf}
-use Rattle.laws.specs.Cond.{Near, by-le, lt-or-ge}
+use Rattle.model.specs.Claim.{Near}
+use Rattle.laws.specs.Cond.{by-le, lt-or-ge}
 use Rattle.laws.specs.SumFrom.{Falling, AtLeast, sumFrom-all}
 use Rattle.laws.specs.Add.{Dyadic, Chain, chain-above}
 use Rattle.laws.specs.Put.{rising-above}

@@ -7,8 +7,8 @@ use native.Mathlib.Nat.{zero-add, add-mul, add-zero, add-suc, suc-add, mul-le-mu
 use native.Mathlib.Omega.{arith}
 use Rattle.model.specs.Level.{Level}
 use Rattle.model.specs.Block.{sumFrom, serving, upFrom}
-use Rattle.model.specs.Claim.{Admits}
-use Rattle.laws.specs.Cond.{Near, by-le}
+use Rattle.model.specs.Claim.{Admits, Near}
+use Rattle.laws.specs.Cond.{by-le}
 use Rattle.laws.specs.Unit.{Tracks}
 use Rattle.laws.specs.InsertSound.{sound-serves}
 use Rattle.theory.specs.Near.{tracks-near, tracks-crowded}

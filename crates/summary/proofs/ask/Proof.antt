@@ -1,6 +1,6 @@
 -- Only the block of the grade is handed on; its window's sum is the answer.
-use Rattle.judge.specs.Judge.{open-inside, open-whole}
-use Rattle.summary.specs.Outcome.{query-inside, query-sound, asked-outcome}
+use Rattle.judge.specs.Judge.{open-inside, open-whole, query-inside, query-sound}
+use Rattle.summary.specs.Outcome.{asked-outcome}
 use Rattle.summary.proofs.ask.Statement.{statement}
 use Rattle.summary.proofs.ask.Tie as tie
 

@@ -1,6 +1,7 @@
 // The calls for programs in C and Rust: SPECIFICATION 12. A slice is a pointer and a length for them. Each call but `litres_words` returns 0
 // or the number of the refusal.
 use model::Answer;
+use model::Grounded;
 use shape::Checked;
 use shape::Shape;
 use trace::Found;
@@ -14,7 +15,8 @@ ghost use Rattle.model.specs.Calls.{perform};
 ghost use Rattle.model.specs.Trace.{dayReply};
 ghost use Rattle.model.specs.Replay.{replay};
 ghost use Rattle.model.specs.Merge.{Merges};
-ghost use Rattle.capi.specs.Told.{codeOf, deliveryOf, sumOf, placeOf, replayOf};
+ghost use Rattle.model.specs.Ground.{ground};
+ghost use Rattle.capi.specs.Told.{codeOf, deliveryOf, sumOf, groundTold, placeOf, replayOf};
 
 // How many words a book of this shape needs; 0 if the shape is outside its limits.
 #[no_mangle]
@@ -70,6 +72,25 @@ pub extern "C" fn litres_query(book: &[u32], grade: u32, window: u32, sum: &mut 
             0
         }
         Answer::Refused(why) => codes::number(why),
+    }
+}
+
+// `values` are written only if the ground is given: sum, level, limit, which case, and F or 0.
+#[no_mangle]
+pub extern "C" fn litres_ground(
+    book: &[u32],
+    grade: u32,
+    window: u32,
+    values: &mut [u64; 5],
+) -> u32
+    ensures { λ r. ⌜ (r, now (values .exit)) ≡ groundTold (ground (now (book .entry)) grade window) (now (values .entry)) ⌝ }
+{
+    match ground::ground(book, grade, window) {
+        Grounded::Given(g) => {
+            ground::store(g, values);
+            0
+        }
+        Grounded::Refused(why) => codes::number(why),
     }
 }
 

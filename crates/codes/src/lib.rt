@@ -1,8 +1,12 @@
-// The number of a refusal (SPECIFICATION 6.2), and the number and the splits of an answer (5.1), used by `text`, `replay` and `capi`.
+// The number of a refusal (SPECIFICATION 6.2), the number and the splits of an answer (5.1), and the values of what a ground says of the
+// next finer level (20.2); used by `text`, `replay`, `ground` and `capi`.
 use model::Answer;
+use model::Finer;
 use model::Refusal;
 ghost use mathlib.Core.Path.{_≡_};
+ghost use lib.ListN.{getD};
 ghost use Rattle.model.specs.Reply.{numberOf, replyOf};
+ghost use Rattle.model.specs.Ground.{finerValues};
 
 pub fn number(why: Refusal) -> u32
     ensures { λ r. ⌜ r ≡ numberOf why ⌝ }
@@ -49,5 +53,27 @@ pub fn answer_splits(answer: Answer) -> u32
         Answer::Splits(splits) => splits,
         Answer::Sum(_) => 0,
         Answer::Refused(_) => 0,
+    }
+}
+
+// Which case it is.
+pub fn finer_case(finer: Finer) -> u64
+    ensures { λ r. ⌜ r ≡ getD (finerValues finer) 0 0 ⌝ }
+{
+    match finer {
+        Finer::WindowZero => 0,
+        Finer::LevelZero => 1,
+        Finer::First(_) => 2,
+    }
+}
+
+// F of the next finer level, 0 if there is none.
+pub fn finer_first(finer: Finer) -> u64
+    ensures { λ r. ⌜ r ≡ getD (finerValues finer) 1 0 ⌝ }
+{
+    match finer {
+        Finer::WindowZero => 0,
+        Finer::LevelZero => 0,
+        Finer::First(first) => first as u64,
     }
 }

@@ -157,7 +157,7 @@ module _ (ws : List ℕ) (s : Shape) (clock : ℕ) (o : Open ws s clock) where
     pub open-inside : InBook s grade ws
     open-inside = record { proper = open-proper; size = open-size; inside = h }
 
-    pub open-whole : soundBlock s (blockPart s grade ws) ≡ true → Whole s (blockPart s grade ws)
+    open-whole : soundBlock s (blockPart s grade ws) ≡ true → Whole s (blockPart s grade ws)
     open-whole sound = record { proper = open-proper; size = length-blockPart s grade h ws open-size; sound = sound }
 
 -- a delivery that 3, 4, 8 and 9 do not refuse is of a grade of the book; 11 and 12 are left
@@ -179,16 +179,19 @@ judges-open ws s clock call b j = record {
   now = j .2;
 }
 
--- ---- an accepted question of an open book: its grade is one of the book, and its block is sound
+-- ---- an accepted question of an open book: its block is a part of the book, and whole
 
 module _ (ws : List ℕ) (s : Shape) (clock grade window : ℕ) (o : Open ws s clock) (h : firstRefusal ws (Query grade window) ≡ 0) where
   facts : AcceptedQuery (bookView ws) grade window
   facts = accepted-query (bookView ws) grade window h
 
-  pub query-inside : grade < s .g
+  inside : grade < s .g
   unfolding bookView
-  query-inside = rw (o .same) (facts .inside)
+  inside = rw (o .same) (facts .inside)
 
-  pub query-sound : soundBlock s (blockPart s grade ws) ≡ true
+  pub query-inside : InBook s grade ws
+  query-inside = open-inside ws s clock o grade inside
+
+  pub query-whole : Whole s (blockPart s grade ws)
   unfolding bookView
-  query-sound = rw (o .same) (facts .sound)
+  query-whole = open-whole ws s clock o grade inside (rw (o .same) (facts .sound))

@@ -1,5 +1,5 @@
 -- Only the block of the grade is handed on; its window's sum is the answer.
-use Rattle.judge.specs.Judge.{open-inside, open-whole, query-inside, query-sound}
+use Rattle.judge.specs.Judge.{query-inside, query-whole}
 use Rattle.summary.specs.Outcome.{asked-outcome}
 use Rattle.summary.proofs.ask.Statement.{statement}
 use Rattle.summary.proofs.ask.Tie as tie
@@ -8,15 +8,13 @@ block-at-requires : tie.Need-block-at-requires
 block-at-requires c κs =
     let d = c .before in
     let a = d .args in
-    open-inside (a .book .now) (a .shape) (a .clock) (d .pre .0) (a .grade) (query-inside (a .book .now) (a .shape) (a .clock) (a .grade) (a .window) (d .pre .0) (d .pre .1))
+    query-inside (a .book .now) (a .shape) (a .clock) (a .grade) (a .window) (d .pre .0) (d .pre .1)
 
 window-sum-requires : tie.Need-window-sum-requires
 window-sum-requires c κs =
     let d = c .before .before in
     let a = d .args in
-    rw (c .block-at .ensures)
-    (open-whole (a .book .now) (a .shape) (a .clock) (d .pre .0) (a .grade) (query-inside (a .book .now) (a .shape) (a .clock) (a .grade) (a .window) (d .pre .0) (d .pre .1))
-    (query-sound (a .book .now) (a .shape) (a .clock) (a .grade) (a .window) (d .pre .0) (d .pre .1)))
+    rw (c .block-at .ensures) (query-whole (a .book .now) (a .shape) (a .clock) (a .grade) (a .window) (d .pre .0) (d .pre .1))
 
 returns : tie.Need-returns
 returns c =

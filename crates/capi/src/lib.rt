@@ -77,12 +77,7 @@ pub extern "C" fn litres_query(book: &[u32], grade: u32, window: u32, sum: &mut 
 
 // `values` are written only if the ground is given: sum, level, limit, which case, and F or 0.
 #[no_mangle]
-pub extern "C" fn litres_ground(
-    book: &[u32],
-    grade: u32,
-    window: u32,
-    values: &mut [u64; 5],
-) -> u32
+pub extern "C" fn litres_ground(book: &[u32], grade: u32, window: u32, values: &mut [u64; 5]) -> u32
     ensures { λ r. ⌜ (r, now (values .exit)) ≡ groundTold (ground (now (book .entry)) grade window) (now (values .entry)) ⌝ }
 {
     match ground::ground(book, grade, window) {

@@ -53,8 +53,10 @@ module _ (ws : List ℕ) (grade window : ℕ) where
   pub ground-sum : take 1 (ground ws grade window .values) ≡ perform ws (Query grade window) .reply .values
   unfolding ground perform groundOf
   ground-sum =
-      rw (settle-reply (refusals (bookView ws) (Query grade window)) ws (outcomeOf (accepted (groundValues given)) ws),
-      settle-reply (refusals (bookView ws) (Query grade window)) ws (accept ws (Query grade window)))
+      rw (
+        settle-reply (refusals (bookView ws) (Query grade window)) ws (outcomeOf (accepted (groundValues given)) ws),
+        settle-reply (refusals (bookView ws) (Query grade window)) ws (accept ws (Query grade window)),
+      )
       (go (eqb first 0))
     where
       go : (t : Bool) → take 1 (cond t (accepted (groundValues given)) (refused first) .values) ≡ cond t (accept ws (Query grade window) .reply) (refused first) .values
@@ -69,8 +71,14 @@ module _ (ws : List ℕ) (grade window : ℕ) where
       let s : Shape = shapeOf ws in
       let long : headLen ≤ length ws = omega (arith, b .size, head-fits s) in
       first-number
-      ∙ rw (le-ltb (length ws) headLen long, b .head, eq-eqb (length ws) (bookWords s) (b .size), lt-ltb grade (s .g) inside, le-ltb (2 ^ s .k) window short,
-      b .blocks grade inside)
+      ∙ rw (
+        le-ltb (length ws) headLen long,
+        b .head,
+        eq-eqb (length ws) (bookWords s) (b .size),
+        lt-ltb grade (s .g) inside,
+        le-ltb (2 ^ s .k) window short,
+        b .blocks grade inside,
+      )
 
   -- the level that it names is the finest with F at most the opening
   named-finest : first ≡ 0 → 0 < window

@@ -48,14 +48,17 @@ uneven = leftBy (replicate (bookWords (shaped 2 2 3 1)) 0) (Make 2 2 3 1 ∷ Clo
 
 abbrev pub grounds : List Rows
 grounds =
-    record { words = after p₇; rows =
-      given 0 0 0 0 0 0
-      ∷ given 2 3 0 0 1 0
-      ∷ given 3 4 2 12 2 2
-      ∷ given 4 8 2 12 2 2
-      ∷ no 0 5 5
-      ∷ no 1 5 3
-      ∷ [] }
+    record {
+      words = after p₇;
+      rows =
+          given 0 0 0 0 0 0
+          ∷ given 2 3 0 0 1 0
+          ∷ given 3 4 2 12 2 2
+          ∷ given 4 8 2 12 2 2
+          ∷ no 0 5 5
+          ∷ no 1 5 3
+          ∷ [];
+    }
     -- level 1, of which the next finer one is level 0
     ∷ record { words = after p₃; rows = given 4 5 1 6 2 1 ∷ [] }
     -- a window that opens in the interval before is read there, though the current half is empty; window 0 is not read at all

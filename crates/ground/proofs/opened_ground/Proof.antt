@@ -52,8 +52,17 @@ returns c =
     let i = p .before in
     let d = i .before .before .before in
     let a = d .args in
-    rw (← ground-opened (a .s) (a .clock) (a .window) (a .block .now) (λ e. omega (arith, d .pre .1)),
-    w .window-sum .ensures, l .limit-of .ensures, c .finer-than .ensures, f .finest .ensures, o .offset .ensures, p .parity .ensures, i .interval .ensures, i .before .opening .ensures)
+    rw (
+      ← ground-opened (a .s) (a .clock) (a .window) (a .block .now) (λ e. omega (arith, d .pre .1)),
+      w .window-sum .ensures,
+      l .limit-of .ensures,
+      c .finer-than .ensures,
+      f .finest .ensures,
+      o .offset .ensures,
+      p .parity .ensures,
+      i .interval .ensures,
+      i .before .opening .ensures,
+    )
 
 pub opened-ground-spec : {M : Type 1} → statement M
 opened-ground-spec =

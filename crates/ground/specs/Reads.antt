@@ -16,7 +16,9 @@ use Rattle.model.specs.Block.{Half, interval, offsetOf, opening, servingIndex, 
 use Rattle.model.specs.Words.{levelPart, decodeLevel, decodeHalf, decodeBlock}
 use Rattle.model.specs.Ground.{firstAt, limitOf, finerThan, groundOf, finerValues}
 use Rattle.laws.specs.Parts.{getD-upFrom}
+use Rattle.laws.specs.BlockWords.{length-levelPart}
 use Rattle.laws.specs.HalfWrites.{halfOf-decode, levelAt}
+use Rattle.block.specs.Steps.{LevelIn}
 
 -- a limit fits
 pub limit-fits : (k level : ℕ) → k ≤ 20 → level ≤ 24 → 2 ^ level * (k + 1) ≤ 2 ^ 24 * 21
@@ -24,7 +26,11 @@ limit-fits k level h g =
     let more : k + 1 ≤ 21 = omega arith in
     omega (arith, mul-le-mul-right (k + 1) (pow-mono g), mul-le-mul-left (2 ^ 24) more)
 
--- F of a level is the second of its words
+-- a level has a second word
+pub second-there : {s : Shape} {parity i : ℕ} {ws : List ℕ} → LevelIn s parity i ws → 1 < length (levelPart s parity i ws)
+second-there {s} {parity} {i} {ws} w = omega (arith, length-levelPart s parity i ws (w .half) (w .index) (w .sized .size))
+
+-- it is F
 pub first-decode : (s : Shape) (parity : ℕ) (ws : List ℕ) (i : ℕ) → i ≤ s .last
     → firstAt (decodeHalf s parity ws .levels) i ≡ getD (levelPart s parity i ws) 1 0
 unfolding decodeHalf decodeLevel

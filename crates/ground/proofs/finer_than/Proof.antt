@@ -1,12 +1,9 @@
 -- The level below is one of the half, and its second word is its F.
-use mathlib.Core.Path.{sym, ap, _∙_}
 use Prim.Native.Nat.{_-_}
 use native.Mathlib.Omega.{arith}
 use borrow.Author.Needs.{needs}
 use borrow.Author.Tests.{eq-eqb, ne-eqb}
-use Rattle.model.specs.declared.Finer.the-variants.{First}
-use Rattle.laws.specs.BlockWords.{length-levelPart}
-use Rattle.ground.specs.Reads.{first-decode}
+use Rattle.ground.specs.Reads.{second-there, first-decode}
 use Rattle.ground.proofs.finer_than.Statement.{statement}
 use Rattle.ground.proofs.finer_than.Tie as tie
 
@@ -21,10 +18,8 @@ level-at-requires c κs = search needs
 
 shared-slice-read-t9 : tie.Need-shared-slice-read-t9
 shared-slice-read-t9 c =
-    let d = c .before .before .before .before in
-    let a = d .args in
-    let size = length-levelPart (a .s) (a .parity) (a .level - 1) (a .block .now) (d .pre .half) (omega (arith, d .pre .index)) (d .pre .sized .size) in
-    omega (arith, rw (sym (c .before .level-at .ensures)) at size)
+    let w = c .before .before .before .before .pre in
+    rw (c .before .level-at .ensures) (second-there (record { sized = w .sized; half = w .half; index = omega (arith, w .index) }))
 
 returns-2 : tie.Need-returns-2
 returns-2 c =

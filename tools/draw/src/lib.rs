@@ -8,6 +8,7 @@ pub mod book;
 pub mod calls;
 pub mod damage;
 pub mod edges;
+pub mod grounds;
 pub mod merge;
 pub mod pace;
 pub mod places;

@@ -128,13 +128,22 @@ pub fn deliver(words: &mut [u32], grade: u32, stamp: u32, volume: u32) -> Result
 
 /// The sum of a window that ends at the clock; 0 for window 0, once nothing refuses it.
 pub fn query(words: &[u32], grade: u32, window: u32) -> Result<u64, u32> {
+    let (shape, clock, block) = open_query(words, grade, window)?;
+    let opening = opening(clock, window);
+    Ok(opening.map_or(0, |opening| sum_from(shape, clock, opening, &block)))
+}
+
+/// All refusals of a query; then the shape, the clock and the two histograms of the grade.
+pub(crate) fn open_query(
+    words: &[u32],
+    grade: u32,
+    window: u32,
+) -> Result<(Shape, u32, [Histogram; 2]), u32> {
     let (shape, clock) = open(words)?;
     when(grade >= shape.g(), refusal::GRADE)?;
     let too_long = u64::from(window) > shape.interval_ticks();
     when(too_long, refusal::WINDOW)?;
-    let block = sound_block(shape, words, grade)?;
-    let opening = opening(clock, window);
-    Ok(opening.map_or(0, |opening| sum_from(shape, clock, opening, &block)))
+    Ok((shape, clock, sound_block(shape, words, grade)?))
 }
 
 /// The sum of a window that opens at this tick, in the current interval or in the one before.

@@ -3,6 +3,7 @@
 //! buckets, so it answers a delivery without a count of splits.
 
 use crate::calls::{Answer, Call, Reply};
+use crate::ground::Ground;
 use crate::refusal::{self, when};
 use crate::shape::Shape;
 use crate::window::opening;
@@ -125,6 +126,13 @@ impl Ledger {
     pub fn admits(&self, exact: u64, answer: u64) -> bool {
         let (k, n) = (u64::from(self.shape.k()), u64::from(self.shape.n()));
         n <= k + 1 || answer.abs_diff(exact) * (n - k - 1) <= 2 * (k + 1) * exact
+    }
+
+    /// Whether a ground of a grade and a window is within its own limit of the exact sum, which document 02,
+    /// request Six, promises for every n.
+    pub fn admits_ground(&self, grade: u32, window: u32, ground: Ground) -> bool {
+        let exact = self.window_sum(grade, window);
+        ground.sum.abs_diff(exact) <= ground.limit
     }
 
     fn sum(&self, counted: impl Fn(&Entry) -> bool) -> u64 {

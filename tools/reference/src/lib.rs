@@ -1,6 +1,6 @@
 //! A second implementation of document 01, as plain as it can be. Windows and lateness are those of
 //! document 02, request One; request Two adds traces and their replay, request Four the count of a
-//! delivery's splits, request Five what a merge of two days may be.
+//! delivery's splits, request Five what a merge of two days may be, request Six the ground of a sum.
 //!
 //! It shares nothing with the proved code but the documents. A call decodes the words into vectors
 //! of buckets, inserts decilitre by decilitre, and encodes the vectors again; clarity comes before
@@ -10,6 +10,7 @@
 #![warn(missing_docs)]
 
 pub mod calls;
+pub mod ground;
 pub mod histogram;
 pub mod layout;
 pub mod ledger;

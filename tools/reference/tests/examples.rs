@@ -1,8 +1,9 @@
 //! The examples of document 01: P1 to P10, the two book lengths, the windows and the bench text. What
-//! windows answer and which stamps are late is document 02's, request One, and how many buckets a
-//! delivery splits request Four.
+//! windows answer and which stamps are late is document 02's, request One, how many buckets a delivery
+//! splits request Four, and what the ground of a sum is request Six.
 
 use reference::calls::{clock, deliver, make, query};
+use reference::ground::{ground, Finer, Ground};
 use reference::histogram::{Histogram, Level};
 use reference::ledger::Ledger;
 use reference::protocol::run;
@@ -48,6 +49,16 @@ fn assert_level(words: &[u32], index: usize, first: u64, buckets: &[(u64, u64, u
         .collect();
     assert_eq!(found, buckets, "buckets of level {index}");
     assert_eq!(level.first, first, "first of level {index}");
+}
+
+fn assert_ground(words: &[u32], window: u32, sum: u64, level: u32, limit: u64, finer: Finer) {
+    let expected = Ground {
+        sum,
+        level,
+        limit,
+        finer,
+    };
+    assert_eq!(ground(words, 0, window), Ok(expected), "window {window}");
 }
 
 /// The sum that the ledger has for a window at clock 3.
@@ -114,6 +125,17 @@ fn p7_leaves_out_the_bucket_that_the_opening_cuts() {
     assert_eq!(even(&words).serving_level(2), Some(0));
     assert_eq!(query(&words, 0, 3), Ok(4));
     assert_eq!(even(&words).serving_level(1), Some(2));
+}
+
+#[test]
+fn p7_grounds() {
+    let words = example(7);
+    assert_ground(&words, 0, 0, 0, 0, Finer::WindowZero);
+    assert_ground(&words, 1, 1, 0, 0, Finer::LevelZero);
+    assert_ground(&words, 2, 3, 0, 0, Finer::LevelZero);
+    // The ledger has 5 here.
+    assert_ground(&words, 3, 4, 2, 12, Finer::First(2));
+    assert_ground(&words, 4, 8, 2, 12, Finer::First(2));
 }
 
 #[test]
@@ -232,4 +254,7 @@ fn first_can_rise_from_one_level_to_the_next() {
     assert_eq!(firsts, [1, 2, 0, 0]);
     // Opening 1 is kept by level 0 although level 1 has lost it.
     assert_eq!(query(&words, 0, 3), Ok(4));
+    assert_ground(&words, 3, 4, 0, 0, Finer::LevelZero);
+    // Opening 0 is lost by both.
+    assert_ground(&words, 4, 6, 2, 12, Finer::First(2));
 }

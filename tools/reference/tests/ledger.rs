@@ -1,11 +1,13 @@
-//! Random runs of the book against the ledger: the same refusals, answers within the bound, late
-//! deliveries never missed, levels near the truth, and every grown block sound.
+//! Random runs of the book against the ledger: the same refusals, answers within the bound, grounds
+//! within their limits, late deliveries never missed, levels near the truth, and every grown block
+//! sound.
 
 use draw::calls::{call_of, Source};
 use draw::pace::Pace;
 use draw::random::Random;
 use draw::shapes::Makes;
 use reference::calls::{perform, Answer, Call};
+use reference::ground::{ground, Finer, Ground};
 use reference::histogram::Histogram;
 use reference::ledger::Ledger;
 use reference::shape::Shape;
@@ -26,6 +28,8 @@ struct Seen {
     above: usize,
     below: usize,
     from_level_0: usize,
+    /// Grounds that differ from the ledger, where n is at most k + 1 and no bound holds.
+    unbounded_inexact: usize,
     late_checked: usize,
 }
 
@@ -119,12 +123,22 @@ impl Run {
             assert_eq!(book, 0);
         }
         assert!(self.ledger.admits(exact, book), "{exact}: {book}");
+        self.check_ground(grade, window, book);
         if shape.n() > shape.k() + 1 {
             self.seen.bounded += 1;
             self.seen.inexact += usize::from(book != exact);
             self.seen.above += usize::from(book > exact);
             self.seen.below += usize::from(book < exact);
+        } else {
+            self.seen.unbounded_inexact += usize::from(book != exact);
         }
+    }
+
+    fn check_ground(&self, grade: u32, window: u32, book: u64) {
+        let ground = ground(&self.words, grade, window).expect("a query that was answered");
+        assert_eq!(ground.sum, book);
+        let admitted = self.ledger.admits_ground(grade, window, ground);
+        assert!(admitted, "{ground:?}");
     }
 
     fn block(&self, grade: u32) -> [Histogram; 2] {
@@ -246,6 +260,7 @@ fn long_intervals_stay_within_a_narrow_bound() {
 
 #[test]
 fn few_slots_still_share_every_refusal() {
+    let mut inexact = 0;
     for seed in 21..=30 {
         let mut random = Random::new(seed);
         let k = random.between(2, 6);
@@ -254,7 +269,33 @@ fn few_slots_still_share_every_refusal() {
         run.steps(&mut source(seed, 200, 3), 2500);
         assert_eq!(run.seen.bounded, 0);
         assert!(run.seen.from_level_0 > 0);
+        inexact += run.seen.unbounded_inexact;
     }
+    assert!(inexact > 300, "{inexact}");
+}
+
+#[test]
+fn limits_of_grounds_include_their_ends() {
+    let mut run = Run::new(shape(2, 2, 4, 1));
+    run.step(Call::Clock { clock: 3 }, 90);
+    let delivery = Call::Delivery {
+        grade: 0,
+        stamp: 2,
+        volume: 13,
+    };
+    run.step(delivery, 90);
+    let admits = |sum, limit| {
+        let ground = Ground {
+            sum,
+            level: 2,
+            limit,
+            finer: Finer::First(1),
+        };
+        run.ledger.admits_ground(0, 2, ground)
+    };
+    assert!(admits(13, 0) && !admits(12, 0) && !admits(14, 0));
+    assert!(admits(1, 12) && admits(25, 12));
+    assert!(!admits(0, 12) && !admits(26, 12));
 }
 
 #[test]

@@ -1,7 +1,8 @@
 //! The order of refusals, one call after another with fewer and fewer reasons, and the exact edge
-//! of each condition.
+//! of each condition. A ground is refused as the query of the same numbers.
 
 use reference::calls::{clock, deliver, make, perform, query, Answer, Call};
+use reference::ground::ground;
 use reference::shape::Shape;
 
 /// Two grades at clock 8; grade 1 is full in the current interval.
@@ -40,6 +41,9 @@ fn assert_refused(mut words: Vec<u32>, call: Call, number: u32) {
     let before = words.clone();
     assert_eq!(perform(&mut words, call), Err(number), "{call:?}");
     assert_eq!(words, before, "{call:?}");
+    if let Call::Query { grade, window } = call {
+        assert_eq!(ground(&words, grade, window), Err(number), "{call:?}");
+    }
 }
 
 fn delivery(grade: u32, stamp: u32, volume: u32) -> Call {
@@ -130,6 +134,7 @@ fn order_for_clocks() {
 fn only_the_named_block_is_inspected() {
     let mut words = unsound();
     assert_eq!(query(&words, 0, 4), Ok(0));
+    assert!(ground(&words, 0, 4).is_ok());
     assert_eq!(deliver(&mut words, 0, 8, 1), Ok(0));
     assert_eq!(query(&words, 0, 4), Ok(1));
 }
@@ -189,9 +194,12 @@ fn edges_of_windows_and_grades() {
         (u32::MAX, Err(5)),
     ] {
         assert_eq!(query(&book(), 1, window), answer, "window {window}");
+        let sum = ground(&book(), 1, window).map(|ground| ground.sum);
+        assert_eq!(sum, answer, "window {window}");
     }
     for grade in [2, 3, 1 << 31, u32::MAX] {
         assert_eq!(query(&book(), grade, 0), Err(3));
+        assert_eq!(ground(&book(), grade, 0), Err(3));
         assert_eq!(deliver(&mut book(), grade, 8, 1), Err(3));
     }
 }

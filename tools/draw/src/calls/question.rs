@@ -8,10 +8,13 @@ use super::Caller;
 impl Caller<'_> {
     /// A question.
     pub fn question(&mut self) -> Call {
-        Call::Query {
-            grade: self.grade(),
-            window: self.window(),
-        }
+        let (grade, window) = self.grade_and_window();
+        Call::Query { grade, window }
+    }
+
+    /// The numbers of a question.
+    pub fn grade_and_window(&mut self) -> (u32, u32) {
+        (self.grade(), self.window())
     }
 
     /// Any window, often one that opens where something stands or a tick beside it.

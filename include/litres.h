@@ -11,9 +11,10 @@
  *   g, 1 to 8      the grades, which are numbered from 0 to g - 1
  *
  * How exact a sum is. A sum adds up whole buckets, so it is near the true sum and not always equal
- * to it. It is off by at most 2(k+1)/(n-k-1) of what the accepted deliveries in the window add up
- * to, where n is above k + 1 and only these calls have written the book since it was made, each
- * given all its words. With k = 20 and n = 441 that is one tenth.
+ * to it. The true sum is what the accepted deliveries in the window add up to. Where only these
+ * calls have written the book since it was made, each given all its words, a sum is off by at most
+ * 2(k+1)/(n-k-1) of the true sum if n is above k + 1. With k = 20 and n = 441 that is one tenth.
+ * Whatever n is, a sum on such a book is off by at most the limit that litres_ground gives.
  *
  * The book is an array of 32-bit words in the processor's byte order. It starts with a head of 8
  * words, which a program may read:
@@ -46,8 +47,8 @@
  *   - the pointer is aligned for uint32_t and is not null, even where the count is 0;
  *   - all words may be read and, where the pointer is not to const, written;
  *   - no other thread writes any of them during the call, nor reads any that the call may write;
- *   - words that a call may write, and the variables that it writes, overlap nothing else that it
- *     is given; words that it only reads may overlap each other.
+ *   - words that a call may write, and the variables and grounds that it writes, overlap nothing
+ *     else that it is given; words that it only reads may overlap each other.
  * There are no other conditions on them: every length, all words and all numbers get an answer.
  *
  * Every call except litres_words returns 0 if it is accepted, else the number of a refusal. A
@@ -68,8 +69,19 @@
  */
 #define LITRES_VERSION_MAJOR 0
 #define LITRES_VERSION_MINOR 3
-#define LITRES_VERSION_PATCH 1
-#define LITRES_VERSION "0.3.1"
+#define LITRES_VERSION_PATCH 2
+#define LITRES_VERSION "0.3.2"
+
+/* Of grounds: how many numbers one has, the place of each, and the cases. */
+#define LITRES_GROUND_LEN 5
+#define LITRES_GROUND_SUM 0
+#define LITRES_GROUND_LEVEL 1
+#define LITRES_GROUND_LIMIT 2
+#define LITRES_GROUND_CASE 3
+#define LITRES_GROUND_FIRST 4
+#define LITRES_CASE_WINDOW_ZERO 0
+#define LITRES_CASE_LEVEL_ZERO 1
+#define LITRES_CASE_FINER 2
 
 /* Of traces: most days, words of a record, words of its answer, and the kinds of records. */
 #define LITRES_MAX_DAYS 64
@@ -149,6 +161,29 @@ uint32_t litres_delivery(uint32_t *book, size_t len, uint32_t grade, uint32_t st
  */
 uint32_t litres_query(const uint32_t *book, size_t len, uint32_t grade, uint32_t window,
                       uint64_t *sum);
+
+/*
+ * Tells where the sum of litres_query comes from. Writes LITRES_GROUND_LEN numbers to `ground`:
+ *   LITRES_GROUND_SUM     the sum that litres_query gives for the same grade and window
+ *   LITRES_GROUND_LEVEL   the level that gave it, 0 to m
+ *   LITRES_GROUND_LIMIT   by how many decilitres it is off at most: 0 on level 0, else
+ *                         2^level * (k + 1). The books for which this holds stand above.
+ *   LITRES_GROUND_CASE    one of three:
+ *     LITRES_CASE_WINDOW_ZERO   window 0, for which sum, level and limit are 0
+ *     LITRES_CASE_LEVEL_ZERO    another window, and level 0 gave the sum
+ *     LITRES_CASE_FINER         a level above 0 gave it
+ *   LITRES_GROUND_FIRST   in the last case F of the next finer level, else 0
+ * A book keeps what a grade has in an interval on levels 0 to m, of which 0 is the finest. F of a
+ * level is the first tick that it still keeps, counted from the start of the interval. A window
+ * above 0 is answered by a level of the interval in which it opens: the finest one whose F is not
+ * past the opening. So F of every finer level is past it.
+ * No word of the book changes. Of the grades' words only this one's are inspected. `ground` must
+ * point to LITRES_GROUND_LEN uint64_t that may be written and that lie outside the book. A refused
+ * call writes none of them.
+ * Refused as litres_query is, in this order: 2 (under 8 words), 7, 2, 3, 5, 11.
+ */
+uint32_t litres_ground(const uint32_t *book, size_t len, uint32_t grade, uint32_t window,
+                       uint64_t ground[LITRES_GROUND_LEN]);
 
 /*
  * Finds a day: *start is its first word in the trace and *length how many words it has, so that it

@@ -1,5 +1,8 @@
 //! The C functions of the archive, as `include/litres.h` declares them.
 
+/// How many numbers a ground has, `LITRES_GROUND_LEN` in the header.
+pub const GROUND_LEN: usize = 5;
+
 extern "C" {
     pub fn litres_words(k: u32, n: u32, m: u32, g: u32) -> usize;
     pub fn litres_make(book: *mut u32, len: usize, k: u32, n: u32, m: u32, g: u32) -> u32;
@@ -18,6 +21,13 @@ extern "C" {
         grade: u32,
         window: u32,
         sum: *mut u64,
+    ) -> u32;
+    pub fn litres_ground(
+        book: *const u32,
+        len: usize,
+        grade: u32,
+        window: u32,
+        ground: *mut [u64; GROUND_LEN],
     ) -> u32;
     pub fn litres_day(
         trace: *const u32,

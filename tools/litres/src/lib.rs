@@ -17,6 +17,24 @@
 //! # Ok::<(), litres::Refused>(())
 //! ```
 //!
+//! A sum has a ground: the level that gave it, how far it can be off, and why no finer level gave it.
+//!
+//! ```
+//! use litres::Finer;
+//! let mut book = vec![0; 90];
+//! litres::make(&mut book, 2, 2, 4, 1)?;
+//! litres::clock(&mut book, 3)?;
+//! for (stamp, volume) in [(0, 3), (3, 1), (1, 1), (1, 1), (2, 2)] {
+//!     litres::delivery(&mut book, 0, stamp, volume)?;
+//! }
+//! let ground = litres::ground(&book, 0, 3)?;
+//! assert_eq!((ground.sum, ground.level, ground.limit), (4, 2, 12)); // 5 decilitres were delivered
+//! assert_eq!(ground.finer, Finer::First(2)); // level 1 keeps stamps from 2 on, and the window opens at 1
+//! assert_eq!(litres::ground(&book, 0, 2)?.finer, Finer::LevelZero); // exact
+//! assert_eq!(litres::ground(&book, 0, 0)?.finer, Finer::WindowZero);
+//! # Ok::<(), litres::Refused>(())
+//! ```
+//!
 //! A trace holds recorded days, whose records are calls. Each is found and replayed on a book:
 //!
 //! ```
@@ -47,8 +65,10 @@
 #![warn(missing_docs)]
 
 mod archive;
+mod ground;
 mod refused;
 
+pub use ground::{Finer, Ground};
 pub use refused::Refused;
 
 /// The version of the library, `LITRES_VERSION` in `include/litres.h`.
@@ -110,6 +130,15 @@ pub fn query(book: &[u32], grade: u32, window: u32) -> Result<u64, Refused> {
     let number =
         unsafe { archive::litres_query(book.as_ptr(), book.len(), grade, window, &mut sum) };
     accepted(number).map(|()| sum)
+}
+
+/// Where the sum of [`query`] comes from. It is refused as the query is.
+pub fn ground(book: &[u32], grade: u32, window: u32) -> Result<Ground, Refused> {
+    let mut numbers = [0; archive::GROUND_LEN];
+    let (words, len) = (book.as_ptr(), book.len());
+    // SAFETY: as for `query`; `numbers` is an array of its own with as many places as are written.
+    let number = unsafe { archive::litres_ground(words, len, grade, window, &mut numbers) };
+    accepted(number).map(|()| Ground::of(numbers))
 }
 
 /// The words of a day, as that part of the trace; `include/litres.h` has the trace's layout. Days are
@@ -184,11 +213,14 @@ mod tests {
     use super::archive;
     use draw::book::Book;
     use draw::calls::Source;
+    use draw::grounds;
     use draw::random::Random;
     use draw::shapes::Makes;
+    use draw::tally::Tally;
     use draw::trace::{day, Drawn};
     use draw::view::Words;
     use reference::calls::{deliver, Call};
+    use reference::ground::{ground, Finer, Ground};
 
     /// The safe call cannot see this, a C program can.
     #[test]
@@ -200,6 +232,86 @@ mod tests {
             let number = unsafe { archive::litres_query(book.as_ptr(), len, 0, 0, &mut sum) };
             assert_eq!((number, sum), (if len < 8 { 2 } else { 7 }, 123));
         }
+    }
+
+    /// What the places of a ground hold before a call, so that it shows which of them are written.
+    const UNWRITTEN: [u64; 5] = [123, 456, 789, 12, 345];
+
+    /// What C gets for a ground: number and places.
+    fn grounded(book: &[u32], grade: u32, window: u32) -> (u32, [u64; 5]) {
+        let mut ground = UNWRITTEN;
+        let (words, len) = (book.as_ptr(), book.len());
+        // SAFETY: the pointer and the length are of one slice; the array is apart from it.
+        let number = unsafe { archive::litres_ground(words, len, grade, window, &mut ground) };
+        (number, ground)
+    }
+
+    /// The book of document 01's P7.
+    fn p7() -> Vec<u32> {
+        let mut book = vec![0; 90];
+        super::make(&mut book, 2, 2, 4, 1).unwrap();
+        super::clock(&mut book, 3).unwrap();
+        for (stamp, volume) in [(0, 3), (3, 1), (1, 1), (1, 1), (2, 2)] {
+            super::delivery(&mut book, 0, stamp, volume).unwrap();
+        }
+        book
+    }
+
+    #[test]
+    fn a_ground_has_each_number_at_its_place() {
+        let book = p7();
+        assert_eq!(grounded(&book, 0, 0), (0, [0, 0, 0, 0, 0]));
+        assert_eq!(grounded(&book, 0, 2), (0, [3, 0, 0, 1, 0]));
+        assert_eq!(grounded(&book, 0, 3), (0, [4, 2, 12, 2, 2]));
+    }
+
+    #[test]
+    fn a_refused_ground_writes_nothing() {
+        let mut book = p7();
+        let refused = |number| (number, UNWRITTEN);
+        for len in [0, 7, 8, 89] {
+            assert_eq!(grounded(&book[..len], 0, 0), refused(2), "{len}");
+        }
+        assert_eq!(grounded(&book, 1, 5), refused(3));
+        assert_eq!(grounded(&book, 0, 5), refused(5));
+        assert_eq!(grounded(&book, 0, u32::MAX), refused(5));
+        book[8] += 1;
+        assert_eq!(grounded(&book, 0, 5), refused(5));
+        for window in [0, 2, 3] {
+            assert_eq!(grounded(&book, 0, window), refused(11), "{window}");
+        }
+        book[7] = 1;
+        assert_eq!(grounded(&book, 1, 5), refused(7));
+        assert_eq!(grounded(&book[..7], 0, 3), refused(2));
+    }
+
+    /// The safe call drops the places of a refused ground, so no comparison through it would see a written
+    /// one.
+    #[test]
+    fn places_of_drawn_grounds() {
+        let random = &mut Random::new(3);
+        let mut met = Tally::new(grounds::all(), 1);
+        for index in 0..6_000 {
+            let (words, grade, window) = grounds::draw(random, index);
+            let right = ground(&words, grade, window);
+            let expected = right.map_or_else(|number| (number, UNWRITTEN), |g| (0, places(g)));
+            let found = grounded(&words, grade, window);
+            assert_eq!(found, expected, "{grade} {window} on {words:?}");
+            for kind in grounds::kinds(&words, grade, window, right) {
+                met.add(&kind);
+            }
+        }
+        assert_eq!(met.faults(), Vec::<String>::new());
+    }
+
+    /// The second program's ground as C gets it.
+    fn places(ground: Ground) -> [u64; 5] {
+        let (case, first) = match ground.finer {
+            Finer::WindowZero => (0, 0),
+            Finer::LevelZero => (1, 0),
+            Finer::First(first) => (2, first.into()),
+        };
+        [ground.sum, ground.level.into(), ground.limit, case, first]
     }
 
     /// What C gets for a delivery: number and halvings. The variable holds something else before, so

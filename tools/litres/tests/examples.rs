@@ -1,7 +1,7 @@
 //! The examples of document 01 through the archive, with the windows and the lateness of document 02,
-//! request One, and the halvings of request Four.
+//! request One, the halvings of request Four and the grounds of request Six.
 
-use litres::{clock, delivery, make, query, words, Refused};
+use litres::{clock, delivery, ground, make, query, words, Finer, Ground, Refused};
 
 const SHAPE: [u32; 4] = [2, 2, 4, 1];
 /// Words of a level with two slots.
@@ -75,6 +75,25 @@ fn p4_to_p7_windows() {
     assert_eq!(query(&example(7), 0, 3), Ok(4));
     assert_eq!(query(&example(7), 0, 4), Ok(8));
     assert_eq!(query(&example(7), 0, 5), Err(Refused(5)));
+}
+
+#[test]
+fn p7_grounds() {
+    let book = example(7);
+    let expected = |sum, level, limit, finer| {
+        Ok(Ground {
+            sum,
+            level,
+            limit,
+            finer,
+        })
+    };
+    assert_eq!(ground(&book, 0, 0), expected(0, 0, 0, Finer::WindowZero));
+    assert_eq!(ground(&book, 0, 2), expected(3, 0, 0, Finer::LevelZero));
+    assert_eq!(ground(&book, 0, 3), expected(4, 2, 12, Finer::First(2)));
+    assert_eq!(ground(&book, 0, 5), Err(Refused(5)));
+    assert_eq!(ground(&book, 1, 5), Err(Refused(3)));
+    assert_eq!(ground(&book[..89], 0, 0), Err(Refused(2)));
 }
 
 #[test]
@@ -199,4 +218,5 @@ fn empty_slices() {
     assert_eq!(clock(&mut [], 0), Err(Refused(2)));
     assert_eq!(delivery(&mut [], 0, 0, 1), Err(Refused(2)));
     assert_eq!(query(&[], 0, 0), Err(Refused(2)));
+    assert_eq!(ground(&[], 0, 0), Err(Refused(2)));
 }

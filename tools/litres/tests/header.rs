@@ -1,5 +1,5 @@
-//! The wrapper beside `include/litres.h`: the refusals, their texts, the constants of traces and the
-//! version are the same.
+//! The wrapper beside `include/litres.h`: the refusals, their texts, the constants of traces and of grounds
+//! and the version are the same.
 
 use litres::{Refused, VERSION};
 use reference::replay::ANSWER_WORDS;
@@ -119,4 +119,15 @@ fn constants_of_traces() {
         assert_eq!(header, ours.to_string(), "{name}");
         assert_eq!(second, ours, "{name}");
     }
+}
+
+/// The wrapper takes the numbers of a ground from these places and knows these cases.
+#[test]
+fn constants_of_grounds() {
+    let places = ["LEN", "SUM", "LEVEL", "LIMIT", "CASE", "FIRST"];
+    let places = places.map(|name| defined(&format!("LITRES_GROUND_{name}")));
+    assert_eq!(places, ["5", "0", "1", "2", "3", "4"]);
+    let cases = ["WINDOW_ZERO", "LEVEL_ZERO", "FINER"];
+    let cases = cases.map(|name| defined(&format!("LITRES_CASE_{name}")));
+    assert_eq!(cases, ["0", "1", "2"]);
 }

@@ -1,11 +1,12 @@
-//! The static library under the second program's types: one function over all calls, and the three of
-//! traces.
+//! The static library under the second program's types: one function over all calls, the ground of a sum,
+//! and the three of traces.
 
 #![forbid(unsafe_code)]
 #![warn(missing_docs)]
 
 use litres::Refused;
 use reference::calls::{Answer, Call, Reply};
+use reference::ground::{Finer, Ground};
 use reference::merge::Named;
 
 /// Performs any call through the Rust wrapper.
@@ -21,6 +22,21 @@ pub fn perform(book: &mut [u32], call: Call) -> Reply {
         Call::Query { grade, window } => litres::query(book, grade, window).map(Answer::Sum),
     }
     .map_err(number)
+}
+
+/// The ground of a sum through the Rust wrapper.
+pub fn ground(book: &[u32], grade: u32, window: u32) -> Result<Ground, u32> {
+    let ground = litres::ground(book, grade, window).map_err(number)?;
+    Ok(Ground {
+        sum: ground.sum,
+        level: ground.level,
+        limit: ground.limit,
+        finer: match ground.finer {
+            litres::Finer::WindowZero => Finer::WindowZero,
+            litres::Finer::LevelZero => Finer::LevelZero,
+            litres::Finer::First(first) => Finer::First(first),
+        },
+    })
 }
 
 /// Finds a day through the Rust wrapper.

@@ -3,6 +3,7 @@
 use std::process::ExitCode;
 
 use books::command::{read, USAGE};
+use books::implementation::Archive;
 use books::run::run;
 use books::summary::Summary;
 use draw::tally::report;
@@ -13,5 +14,5 @@ fn main() -> ExitCode {
 }
 
 fn compare(Trials { seed, numbers }: Trials) -> ExitCode {
-    report(seed, run(archive::perform, seed, numbers), Summary::faults)
+    report(seed, run(&Archive, seed, numbers), Summary::faults)
 }

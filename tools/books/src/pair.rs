@@ -1,9 +1,13 @@
 //! The same words twice, once for each side, with words around them that no call was lent.
 
 use std::fmt::{self, Display, Formatter};
+use std::hint::black_box;
 
 use reference::calls::{self, Answer, Call, Reply};
+use reference::ground::{ground, Ground};
 use reference::protocol;
+
+use crate::implementation::Implementation;
 
 /// Both sides' words, equal after each call.
 pub struct Pair {
@@ -20,12 +24,21 @@ pub struct Difference {
     pub call: Call,
     /// How many words it was lent.
     pub lent: usize,
-    /// The second program's answer.
-    pub expected: Reply,
-    /// The answer of the implementation.
-    pub found: Reply,
+    /// What the second program gives.
+    pub expected: Given,
+    /// What the implementation gives.
+    pub found: Given,
     /// The first differing word, where the words differ.
     pub word: Option<WordDifference>,
+}
+
+/// What is compared beside the words.
+#[derive(Clone, Copy, Debug, PartialEq, Eq)]
+pub enum Given {
+    /// The answer of a call.
+    Answer(Reply),
+    /// The ground of a question.
+    Ground(Result<Ground, u32>),
 }
 
 /// A word that differs.
@@ -92,20 +105,52 @@ impl Pair {
     /// Lends both sides so many words for a call and compares answers and all words.
     pub fn perform(
         &mut self,
-        implementation: impl Fn(&mut [u32], Call) -> Reply,
+        implementation: &impl Implementation,
         lent: usize,
         call: Call,
     ) -> Result<Reply, Box<Difference>> {
         let range = self.start..self.start + lent;
         self.before.copy_from_slice(&self.ours);
         let expected = calls::perform(&mut self.ours[range.clone()], call);
-        let found = implementation(&mut self.theirs[range], call);
+        let found = implementation.perform(&mut self.theirs[range], call);
         if expected.is_err() || matches!(call, Call::Query { .. }) {
             assert!(self.ours == self.before, "the second program: {call:?}");
         }
-        let word = WordDifference::first(&self.before, &self.ours, &self.theirs, self.start);
+        let given = [expected, found].map(Given::Answer);
+        self.check(&self.before, call, lent, given)?;
+        Ok(expected)
+    }
+
+    /// Lends both sides so many words for the ground of a sum, and compares grounds and all words. No stand-in
+    /// in safe Rust can change what it is lent here, so that test is for the archive's machine code alone.
+    pub fn ground(
+        &self,
+        implementation: &impl Implementation,
+        lent: usize,
+        grade: u32,
+        window: u32,
+    ) -> Result<Result<Ground, u32>, Box<Difference>> {
+        let range = self.start..self.start + lent;
+        let expected = ground(&self.ours[range.clone()], grade, window);
+        let found = implementation.ground(&self.theirs[range], grade, window);
+        let given = [expected, found].map(Given::Ground);
+        self.check(&self.ours, Call::Query { grade, window }, lent, given)?;
+        Ok(expected)
+    }
+
+    /// Whether both sides give the same, the second program first, and have the same words after these.
+    fn check(
+        &self,
+        before: &[u32],
+        call: Call,
+        lent: usize,
+        [expected, found]: [Given; 2],
+    ) -> Result<(), Box<Difference>> {
+        // The compiler may take words that are lent for reading as unchanged; so it has to read them again.
+        let theirs = black_box(&self.theirs);
+        let word = WordDifference::first(before, &self.ours, theirs, self.start);
         if expected == found && word.is_none() {
-            return Ok(expected);
+            return Ok(());
         }
         Err(Box::new(Difference {
             call,
@@ -126,11 +171,20 @@ pub fn told(reply: Reply) -> String {
     }
 }
 
+impl Display for Given {
+    fn fmt(&self, f: &mut Formatter<'_>) -> fmt::Result {
+        match *self {
+            Given::Answer(reply) => f.write_str(&told(reply)),
+            Given::Ground(Ok(ground)) => write!(f, "{ground:?}"),
+            Given::Ground(Err(number)) => f.write_str(&told(Err(number))),
+        }
+    }
+}
+
 impl Display for Difference {
     fn fmt(&self, f: &mut Formatter<'_>) -> fmt::Result {
         writeln!(f, "call {:?} on {} words", self.call, self.lent)?;
-        let [found, expected] = [self.found, self.expected].map(told);
-        write!(f, "answers {found}, expected {expected}")?;
+        write!(f, "answers {}, expected {}", self.found, self.expected)?;
         match &self.word {
             None => write!(f, "\nwords equal"),
             Some(word) => write!(f, "\n{word}"),

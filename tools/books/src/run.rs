@@ -1,4 +1,5 @@
-//! A whole run: books in turn, a handful of calls on each, up to the first difference.
+//! A whole run: books in turn, a handful of calls on each, and the ground of each question, up to the first
+//! difference.
 
 use std::fmt::{self, Display, Formatter};
 
@@ -8,9 +9,10 @@ use draw::pace::Pace;
 use draw::random::Random;
 use draw::shapes::Makes;
 use draw::view::{View, Words};
-use reference::calls::{Call, Reply};
+use reference::calls::{Answer, Call, Reply};
 use reference::shape::Shape;
 
+use crate::implementation::Implementation;
 use crate::pair::{Difference, Pair};
 use crate::summary::Summary;
 
@@ -50,19 +52,19 @@ impl Display for Failure {
 
 /// The calls of each book through both sides. A book depends on the seed and its number alone.
 pub fn run(
-    implementation: impl Fn(&mut [u32], Call) -> Reply,
+    implementation: &impl Implementation,
     seed: u64,
     books: impl Iterator<Item = u64>,
 ) -> Result<Summary, Box<Failure>> {
     let mut summary = Summary::new();
     for book in books {
-        trial(&implementation, seed, book, &mut summary)?;
+        trial(implementation, seed, book, &mut summary)?;
     }
     Ok(summary)
 }
 
 fn trial(
-    implementation: impl Fn(&mut [u32], Call) -> Reply,
+    implementation: &impl Implementation,
     seed: u64,
     index: u64,
     summary: &mut Summary,
@@ -92,7 +94,7 @@ fn trial(
         let (current, clock) = (before.shape(), before.clock());
         let call = source.call(&before);
         let lent = lent(&mut source.random, call, words.len(), TAIL);
-        match pair.perform(&implementation, lent, call) {
+        match compare(implementation, &mut pair, lent, call, summary) {
             Ok(reply) => summary.add_reply(current, clock, call, reply),
             Err(difference) => {
                 return Err(Box::new(Failure {
@@ -107,6 +109,25 @@ fn trial(
         }
     }
     Ok(())
+}
+
+/// One call by both sides, and the ground of a question. A question gets the sum of its ground and is refused
+/// as its ground is; since the sides agree in both, this holds for either.
+fn compare(
+    implementation: &impl Implementation,
+    pair: &mut Pair,
+    lent: usize,
+    call: Call,
+    summary: &mut Summary,
+) -> Result<Reply, Box<Difference>> {
+    let reply = pair.perform(implementation, lent, call)?;
+    if let Call::Query { grade, window } = call {
+        let ground = pair.ground(implementation, lent, grade, window)?;
+        let asked = ground.map(|ground| Answer::Sum(ground.sum));
+        assert_eq!(asked, reply, "the second program: {call:?}");
+        summary.add_ground(&pair.words()[..lent], grade, window, ground);
+    }
+    Ok(reply)
 }
 
 /// The book between other words, at any distance from a round address.

@@ -4,9 +4,10 @@ use std::fmt::{self, Display, Formatter};
 
 use draw::book::Kind;
 use draw::damage::KINDS;
-use draw::edges;
 use draw::tally::Tally;
+use draw::{edges, grounds};
 use reference::calls::{Call, Reply};
+use reference::ground::Ground;
 use reference::shape::Shape;
 use reference::{protocol, refusal};
 
@@ -16,6 +17,9 @@ pub const BOOKS_FOR_ALL: u64 = 2_000;
 /// A run that met so many edges of windows and of lateness must show every kind of them.
 pub const EDGES_FOR_ALL: u64 = 8_000;
 
+/// A run that met so many kinds of grounds must show every kind of them.
+pub const GROUNDS_FOR_ALL: u64 = 8_000;
+
 /// Counts of a run.
 #[derive(Clone, Debug, PartialEq, Eq)]
 pub struct Summary {
@@ -24,6 +28,7 @@ pub struct Summary {
     answers: Tally,
     splits: Tally,
     edges: Tally,
+    grounds: Tally,
 }
 
 impl Summary {
@@ -36,6 +41,7 @@ impl Summary {
             answers: Tally::of_answers(refusal::CALLS, &[], 4 * BOOKS_FOR_ALL),
             splits: Tally::of_splits(BOOKS_FOR_ALL),
             edges: Tally::new(edges::all(), EDGES_FOR_ALL),
+            grounds: Tally::new(grounds::all(), GROUNDS_FOR_ALL),
         }
     }
 
@@ -60,6 +66,19 @@ impl Summary {
         }
     }
 
+    /// Counts a ground of these words on which both sides agree.
+    pub fn add_ground(
+        &mut self,
+        book: &[u32],
+        grade: u32,
+        window: u32,
+        ground: Result<Ground, u32>,
+    ) {
+        for kind in grounds::kinds(book, grade, window, ground) {
+            self.grounds.add(&kind);
+        }
+    }
+
     /// All books.
     pub fn books(&self) -> u64 {
         self.books.total()
@@ -68,6 +87,11 @@ impl Summary {
     /// How often each kind of edge was met.
     pub fn edges(&self) -> &Tally {
         &self.edges
+    }
+
+    /// How often each kind of ground was met.
+    pub fn grounds(&self) -> &Tally {
+        &self.grounds
     }
 
     /// All calls.
@@ -83,6 +107,7 @@ impl Summary {
             &self.answers,
             &self.splits,
             &self.edges,
+            &self.grounds,
         ];
         tallies.into_iter().flat_map(Tally::faults).collect()
     }
@@ -100,6 +125,7 @@ impl Display for Summary {
         write!(f, "{books} books ({}), {calls} calls, ", self.books)?;
         write!(f, "all equal; {}", self.answers)?;
         write!(f, "; deliveries: {}", self.splits)?;
+        write!(f, "; grounds: {}", self.grounds)?;
         write!(f, "; edges met: {}", self.edges.total())
     }
 }

@@ -1,10 +1,12 @@
 //! The command line, a run through the archive, and what a failed run reports.
 
 use books::command::read;
-use books::pair::{Difference, WordDifference};
+use books::implementation::Archive;
+use books::pair::{Difference, Given, WordDifference};
 use books::run::run;
 use options::{Trials, Words};
 use reference::calls::{Answer, Call};
+use reference::ground::{Finer, Ground};
 
 #[test]
 fn options() {
@@ -18,14 +20,14 @@ fn options() {
 
 #[test]
 fn the_archive_is_equal() {
-    let all = run(archive::perform, 3, 0..2500).unwrap_or_else(|failure| panic!("{failure}"));
+    let all = run(&Archive, 3, 0..2500).unwrap_or_else(|failure| panic!("{failure}"));
     assert_eq!(all.books(), 2500);
     assert_eq!(all.faults(), Vec::<String>::new(), "{all}");
 }
 
 #[test]
 fn a_book_depends_on_seed_and_number_alone() {
-    let one = |book| run(archive::perform, 3, book..book + 1).expect("equal");
+    let one = |book| run(&Archive, 3, book..book + 1).expect("equal");
     let all: Vec<_> = (0..20).map(one).collect();
     let again: Vec<_> = (0..20).rev().map(one).collect();
     assert!(all.iter().eq(again.iter().rev()));
@@ -37,8 +39,8 @@ fn a_difference_in_words() {
     let difference = Difference {
         call: Call::Clock { clock: 3 },
         lent: 90,
-        expected: Err(11),
-        found: Err(7),
+        expected: Given::Answer(Err(11)),
+        found: Given::Answer(Err(7)),
         word: Some(WordDifference {
             place: 4,
             before: 1,
@@ -61,12 +63,35 @@ fn a_difference_in_splits() {
             volume: 9,
         },
         lent: 90,
-        expected: Ok(Answer::Splits(3)),
-        found: Ok(Answer::Splits(0)),
+        expected: Given::Answer(Ok(Answer::Splits(3))),
+        found: Given::Answer(Ok(Answer::Splits(0))),
         word: None,
     };
     let text = "call Delivery { grade: 0, stamp: 1, volume: 9 } on 90 words\n\
                 answers ok (splits: 0), expected ok (splits: 3)\n\
+                words equal";
+    assert_eq!(difference.to_string(), text);
+}
+
+#[test]
+fn a_difference_in_grounds() {
+    let difference = Difference {
+        call: Call::Query {
+            grade: 0,
+            window: 3,
+        },
+        lent: 90,
+        expected: Given::Ground(Err(5)),
+        found: Given::Ground(Ok(Ground {
+            sum: 4,
+            level: 2,
+            limit: 12,
+            finer: Finer::First(2),
+        })),
+        word: None,
+    };
+    let text = "call Query { grade: 0, window: 3 } on 90 words\n\
+                answers Ground { sum: 4, level: 2, limit: 12, finer: First(2) }, expected refused 5\n\
                 words equal";
     assert_eq!(difference.to_string(), text);
 }

@@ -2,6 +2,7 @@
 
 mod wrong;
 
+use books::pair::Given;
 use reference::calls::{perform, Answer, Call, Reply};
 use reference::histogram::Level;
 use reference::shape::Shape;
@@ -71,8 +72,9 @@ fn counting(count: impl Fn(Insertion) -> u32) -> impl Fn(&mut [u32], Call) -> Re
 fn assert_found(name: &str, stand_in: impl Fn(&mut [u32], Call) -> Reply) {
     let found = difference(stand_in).unwrap_or_else(|| panic!("{name}: no difference"));
     let difference = found.difference;
-    let both = (difference.expected, difference.found);
-    let counts = matches!(both, (Ok(Answer::Splits(_)), Ok(Answer::Splits(_))));
+    let counts = [difference.expected, difference.found]
+        .iter()
+        .all(|given| matches!(given, Given::Answer(Ok(Answer::Splits(_)))));
     assert!(counts && difference.word.is_none(), "{name}: {difference}");
 }
 

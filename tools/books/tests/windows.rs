@@ -124,7 +124,7 @@ fn every_edge_is_met_often_and_tells_a_tick() {
         }
         reply
     };
-    let summary = run(watching, 1, 0..BOOKS).expect("no difference");
+    let summary = run(&watching, 1, 0..BOOKS).expect("no difference");
     assert_eq!(summary.faults(), Vec::<String>::new());
     for kind in edges::all() {
         let count = summary.edges().count(&kind);

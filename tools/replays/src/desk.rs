@@ -65,7 +65,7 @@ impl Desk {
     ) -> Result<Reply, Box<Difference>> {
         let mut pair = Pair::new(self.words.clone(), self.start);
         let perform = |book: &mut [u32], call: Call| implementation.perform(book, call);
-        let reply = pair.perform(perform, self.length, call);
+        let reply = pair.perform(&perform, self.length, call);
         self.words[self.start..].copy_from_slice(pair.words());
         reply.map_err(|difference| Box::new(Difference::Call(difference)))
     }

@@ -2,6 +2,7 @@
 
 #![allow(dead_code)] // Each of the tests needs only some of this.
 
+use books::implementation::Implementation;
 use books::run::{run, Failure};
 use books::summary::BOOKS_FOR_ALL;
 use reference::calls::{perform, Answer, Call, Reply};
@@ -12,12 +13,17 @@ use reference::words::{decode_block, decode_head, RawHistogram};
 
 /// The first difference that a usual run finds, if any.
 pub fn difference(stand_in: impl Fn(&mut [u32], Call) -> Reply) -> Option<Box<Failure>> {
+    difference_of(&stand_in)
+}
+
+/// The same for any stand-in.
+pub fn difference_of(stand_in: &impl Implementation) -> Option<Box<Failure>> {
     run(stand_in, 1, 0..24_000).err()
 }
 
 /// A stand-in with nothing changed differs in nothing, so what others differ in is their change.
-pub fn assert_equal(stand_in: impl Fn(&mut [u32], Call) -> Reply) {
-    let summary = run(stand_in, 2, 0..BOOKS_FOR_ALL).expect("no difference");
+pub fn assert_equal(stand_in: impl Implementation) {
+    let summary = run(&stand_in, 2, 0..BOOKS_FOR_ALL).expect("no difference");
     assert_eq!(summary.books(), BOOKS_FOR_ALL);
     assert_eq!(summary.faults(), Vec::<String>::new());
 }

@@ -176,7 +176,7 @@ impl Display for Given {
         match *self {
             Given::Answer(reply) => f.write_str(&told(reply)),
             Given::Ground(Ok(ground)) => write!(f, "{ground:?}"),
-            Given::Ground(Err(number)) => f.write_str(&told(Err(number))),
+            Given::Ground(Err(number)) => write!(f, "{} (ground)", told(Err(number))),
         }
     }
 }

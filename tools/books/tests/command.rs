@@ -91,7 +91,7 @@ fn a_difference_in_grounds() {
         word: None,
     };
     let text = "call Query { grade: 0, window: 3 } on 90 words\n\
-                answers Ground { sum: 4, level: 2, limit: 12, finer: First(2) }, expected refused 5\n\
+                answers Ground { sum: 4, level: 2, limit: 12, finer: First(2) }, expected refused 5 (ground)\n\
                 words equal";
     assert_eq!(difference.to_string(), text);
 }

@@ -98,7 +98,7 @@ pub fn replay(
         difference,
     })?;
     let answered = answered.expect("a trace with a day and room for its answers");
-    let replies: Vec<Reply> = answered.into_iter().map(|(_, reply)| reply).collect();
+    let replies: Vec<Reply> = answered.iter().map(|answered| answered.reply).collect();
     let (left, answers) = record_by_record(implementation, book, merged)?;
     let expected: Vec<u32> = replies.iter().copied().flat_map(answer_words).collect();
     let of_book = WordDifference::first(book, desk.book(), &left, 0);

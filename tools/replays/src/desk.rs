@@ -8,6 +8,7 @@ use std::ops::Range;
 use books::pair::{Pair, WordDifference};
 use draw::random::Random;
 use reference::calls::{Call, Reply};
+use reference::ground::Ground;
 use reference::replay::{self, answer_words, ANSWER_WORDS};
 
 use crate::difference::{Asked, Difference, Of, What};
@@ -18,8 +19,38 @@ pub const TAIL: usize = 24;
 /// Words around the answers or an output, and around a trace.
 pub const MARGIN: usize = 5;
 
-/// The calls of an accepted replay with their answers, or the number of its refusal.
-pub type Outcome = Result<Vec<(Call, Reply)>, u32>;
+/// The calls of an accepted replay, or the number of its refusal.
+pub type Outcome = Result<Vec<Answered>, u32>;
+
+/// A call that the implementation performed by itself.
+#[derive(Clone, Copy, Debug, PartialEq, Eq)]
+pub struct Answered {
+    /// The call.
+    pub call: Call,
+    /// Its answer, on which both sides agree.
+    pub reply: Reply,
+    /// The implementation's ground of a question, on the same book.
+    pub ground: Option<Result<Ground, u32>>,
+}
+
+impl Answered {
+    fn new(
+        implementation: &impl Implementation,
+        book: &[u32],
+        call: Call,
+        reply: Reply,
+    ) -> Answered {
+        let ground = match call {
+            Call::Query { grade, window } => Some(implementation.ground(book, grade, window)),
+            _ => None,
+        };
+        Answered {
+            call,
+            reply,
+            ground,
+        }
+    }
+}
 
 /// A book with words around it.
 pub struct Desk {
@@ -62,12 +93,13 @@ impl Desk {
         &mut self,
         implementation: &impl Implementation,
         call: Call,
-    ) -> Result<Reply, Box<Difference>> {
+    ) -> Result<Answered, Box<Difference>> {
         let mut pair = Pair::new(self.words.clone(), self.start);
         let perform = |book: &mut [u32], call: Call| implementation.perform(book, call);
         let reply = pair.perform(&perform, self.length, call);
         self.words[self.start..].copy_from_slice(pair.words());
-        reply.map_err(|difference| Box::new(Difference::Call(difference)))
+        let reply = reply.map_err(|difference| Box::new(Difference::Call(difference)))?;
+        Ok(Answered::new(implementation, self.book(), call, reply))
     }
 
     /// Finds a day and replays it, by both sides and by the implementation's own calls one by one.
@@ -108,14 +140,13 @@ impl Desk {
         let calls = replay::calls(trace, day, room).unwrap_or_default();
         let mut apart = before.clone();
         let lent = self.lent(&mut apart, asked);
-        let replies = one_by_one(implementation, lent, &calls);
+        let answered = one_by_one(implementation, lent, &calls);
         if let Some((of, word)) = self.first_word(&before, &theirs, &apart) {
             return Err(asked.difference(What::Apart(of, word)));
         }
-        let outcome: Outcome = expected.map(|replies| calls.into_iter().zip(replies).collect());
-        check_replies(asked, outcome.as_deref().unwrap_or(&[]), &replies)?;
+        check_replies(asked, expected.as_deref().unwrap_or(&[]), &answered)?;
         self.words = ours.book;
-        Ok(outcome)
+        Ok(expected.map(|_| answered))
     }
 
     /// What a replay is lent of a side.
@@ -177,16 +208,16 @@ fn check_part(implementation: &impl Implementation, asked: Asked) -> Result<(), 
 /// The answer words have been compared; the replies also tell the splits of deliveries.
 fn check_replies(
     asked: Asked,
-    expected: &[(Call, Reply)],
-    found: &[Reply],
+    expected: &[Reply],
+    found: &[Answered],
 ) -> Result<(), Box<Difference>> {
     let mut both = expected.iter().zip(found);
-    match both.find(|((_, expected), found)| expected != *found) {
+    match both.find(|(expected, found)| **expected != found.reply) {
         None => Ok(()),
-        Some((&(call, expected), &found)) => Err(asked.difference(What::Reply {
-            call,
-            expected,
-            found,
+        Some((expected, found)) => Err(asked.difference(What::Reply {
+            call: found.call,
+            expected: *expected,
+            found: found.reply,
         })),
     }
 }
@@ -199,13 +230,13 @@ fn place(trace: &[u32], part: &[u32]) -> Option<Range<usize>> {
     (end <= trace.len()).then_some(start..end)
 }
 
-/// The replies to the implementation's own calls, also written as a replay writes its answers.
-fn one_by_one(implementation: &impl Implementation, lent: Lent, calls: &[Call]) -> Vec<Reply> {
+/// The implementation's own calls, their replies also written as a replay writes its answers.
+fn one_by_one(implementation: &impl Implementation, lent: Lent, calls: &[Call]) -> Vec<Answered> {
     let places = lent.answers.chunks_mut(ANSWER_WORDS);
     let answered = calls.iter().zip(places).map(|(call, place)| {
         let reply = implementation.perform(lent.book, *call);
         place.copy_from_slice(&answer_words(reply));
-        reply
+        Answered::new(implementation, lent.book, *call, reply)
     });
     answered.collect()
 }

@@ -3,8 +3,9 @@
 use std::fmt::{self, Display, Formatter};
 use std::ops::Range;
 
-use books::pair::{self, told, WordDifference};
+use books::pair::{self, told, Given, WordDifference};
 use reference::calls::{Call, Reply};
+use reference::ground::Ground;
 use reference::protocol::answer;
 
 /// A day of a trace, and the words that are lent for its replay.
@@ -45,6 +46,16 @@ pub enum Difference {
         expected: Reply,
         /// The book's answer.
         found: Reply,
+    },
+    /// The ground of a question of a list, which has not the sum or the number of its answer, or from whose
+    /// sum the ledger's is further than its limit.
+    Ground {
+        /// The question.
+        call: Call,
+        /// The ledger's answer.
+        expected: Reply,
+        /// The ground; nothing where none was asked for.
+        found: Option<Result<Ground, u32>>,
     },
 }
 
@@ -123,6 +134,17 @@ impl Display for Difference {
                 found,
             } => {
                 let [found, expected] = [*found, *expected].map(answer);
+                write!(f, "call {call:?}: {found}, the ledger: {expected}")
+            }
+            Difference::Ground {
+                call,
+                expected,
+                found,
+            } => {
+                let found = found.map_or("no ground".to_string(), |ground| {
+                    Given::Ground(ground).to_string()
+                });
+                let expected = answer(*expected);
                 write!(f, "call {call:?}: {found}, the ledger: {expected}")
             }
         }

@@ -1,6 +1,7 @@
 //! What is compared with the second program.
 
 use reference::calls::{self, Call, Reply};
+use reference::ground::{self, Ground};
 use reference::replay;
 
 /// What a replay is lent.
@@ -22,7 +23,7 @@ impl Lent<'_> {
     }
 }
 
-/// An implementation of the calls and of traces. What it does not name is the second program's own, so
+/// An implementation of the calls, of grounds and of traces. What it does not name is the second program's own, so
 /// that a wrong stand-in names only what is wrong.
 pub trait Implementation {
     /// The part of a trace that is this day.
@@ -38,6 +39,11 @@ pub trait Implementation {
     /// Performs a call by itself.
     fn perform(&self, book: &mut [u32], call: Call) -> Reply {
         calls::perform(book, call)
+    }
+
+    /// The ground of the sum of a grade and a window.
+    fn ground(&self, book: &[u32], grade: u32, window: u32) -> Result<Ground, u32> {
+        ground::ground(book, grade, window)
     }
 }
 
@@ -55,5 +61,9 @@ impl Implementation for Archive {
 
     fn perform(&self, book: &mut [u32], call: Call) -> Reply {
         archive::perform(book, call)
+    }
+
+    fn ground(&self, book: &[u32], grade: u32, window: u32) -> Result<Ground, u32> {
+        archive::ground(book, grade, window)
     }
 }

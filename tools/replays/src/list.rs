@@ -1,5 +1,5 @@
 //! Lists of calls and replays from a make on, beside the ledger. A replay counts there as its calls, one
-//! that is refused as none.
+//! that is refused as none. The ground of each question is held against the ledger too.
 
 use draw::calls::{call_of, Source};
 use draw::pace::Pace;
@@ -10,7 +10,7 @@ use reference::calls::{Answer, Call, Reply};
 use reference::ledger::Ledger;
 use reference::replay::ANSWER_WORDS;
 
-use crate::desk::Desk;
+use crate::desk::{Answered, Desk};
 use crate::difference::{Asked, Difference};
 use crate::implementation::Implementation;
 use crate::summary::Summary;
@@ -33,7 +33,7 @@ impl<'i, I: Implementation> List<'i, I> {
         let length = shape.book_length();
         let mut desk = Desk::new(random, &vec![0; length]);
         let made = desk.call(implementation, call_of(shape.numbers()))?;
-        assert_eq!(made, Ok(Answer::Done), "a make of the book's length");
+        assert_eq!(made.reply, Ok(Answer::Done), "a make of the book's length");
         Ok(List {
             implementation,
             source: Source {
@@ -52,9 +52,9 @@ impl<'i, I: Implementation> List<'i, I> {
         match random.below(6) {
             0..=1 => {
                 let call = self.source.call(&self.ledger);
-                let reply = self.desk.call(self.implementation, call)?;
+                let answered = self.desk.call(self.implementation, call)?;
                 summary.add_to_list("a call");
-                self.note(call, reply, summary)
+                self.note(answered, summary)
             }
             2 => {
                 let drawn = Drawn::draw(random, shape, self.desk.book());
@@ -90,15 +90,15 @@ impl<'i, I: Implementation> List<'i, I> {
             Err(_) => "a refused replay",
         });
         let mut calls = outcome.into_iter().flatten();
-        calls.try_for_each(|(call, reply)| self.note(call, reply, summary))
+        calls.try_for_each(|answered| self.note(answered, summary))
     }
 
-    fn note(
-        &mut self,
-        call: Call,
-        found: Reply,
-        summary: &mut Summary,
-    ) -> Result<(), Box<Difference>> {
+    fn note(&mut self, answered: Answered, summary: &mut Summary) -> Result<(), Box<Difference>> {
+        let Answered {
+            call,
+            reply: found,
+            ground,
+        } = answered;
         summary.add_splits(found);
         let expected = self.ledger.perform(call, self.desk.book().len());
         if let (Ok(Answer::Sum(exact)), Ok(Answer::Sum(sum))) = (expected, found) {
@@ -108,15 +108,43 @@ impl<'i, I: Implementation> List<'i, I> {
             } else {
                 "another sum"
             });
+            summary.add_ground(self.ledger.shape(), is_exact);
         }
-        if agrees(&self.ledger, expected, found) {
-            return Ok(());
+        if !agrees(&self.ledger, expected, found) {
+            return Err(Box::new(Difference::Ledger {
+                call,
+                expected,
+                found,
+            }));
         }
-        Err(Box::new(Difference::Ledger {
-            call,
-            expected,
-            found,
-        }))
+        if !is_grounded(&self.ledger, answered) {
+            return Err(Box::new(Difference::Ground {
+                call,
+                expected,
+                found: ground,
+            }));
+        }
+        Ok(())
+    }
+}
+
+/// Whether a question has the ground of its answer: with the same sum, from which the ledger's is at most the
+/// limit away, whatever n is, or refused under the same number. Other calls have none.
+pub fn is_grounded(ledger: &Ledger, answered: Answered) -> bool {
+    let Answered {
+        call,
+        reply,
+        ground,
+    } = answered;
+    let Call::Query { grade, window } = call else {
+        return ground.is_none();
+    };
+    match (reply, ground) {
+        (Ok(Answer::Sum(sum)), Some(Ok(ground))) => {
+            ground.sum == sum && ledger.admits_ground(grade, window, ground)
+        }
+        (Err(number), Some(Err(refused))) => number == refused,
+        _ => false,
     }
 }
 

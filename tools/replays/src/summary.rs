@@ -8,12 +8,23 @@ use draw::trace::{damage, met, Drawn, FORMS};
 use reference::calls::Reply;
 use reference::protocol::answer;
 use reference::refusal;
+use reference::shape::Shape;
 
-use crate::desk::Outcome;
+use crate::desk::{Answered, Outcome};
 use crate::difference::Asked;
 
 /// A run of so many traces must show every kind of trace, of replay and of answer.
 pub const TRACES_FOR_ALL: u64 = 4_000;
+
+/// Grounds that were held against the ledger, by whether it has the same sum. Where n is at most k + 1, nothing
+/// but the limit bounds the difference.
+pub const GROUNDS: [[&str; 2]; 2] = [
+    ["exact", "off"],
+    [
+        "exact where n is at most k + 1",
+        "off where n is at most k + 1",
+    ],
+];
 
 /// Counts of a run.
 #[derive(Clone, Debug, PartialEq, Eq)]
@@ -27,6 +38,7 @@ pub struct Summary {
     splits: Tally,
     met: Tally,
     lists: Tally,
+    grounds: Tally,
 }
 
 /// Nothing counted yet.
@@ -63,6 +75,8 @@ impl Default for Summary {
             splits: Tally::of_splits(TRACES_FOR_ALL),
             met: Tally::new(met::all(), 8 * TRACES_FOR_ALL),
             lists: Tally::new(lists, TRACES_FOR_ALL / 4),
+            // Most that are off have few slots.
+            grounds: Tally::new(GROUNDS.concat(), 4 * TRACES_FOR_ALL),
         }
     }
 }
@@ -103,7 +117,7 @@ impl Summary {
         match outcome {
             Ok(replies) => {
                 self.replays.add("replayed");
-                for (_, reply) in replies {
+                for Answered { reply, .. } in replies {
                     self.answers.add_answer(&answer(*reply));
                     self.add_splits(*reply);
                 }
@@ -122,6 +136,13 @@ impl Summary {
         self.lists.add(what);
     }
 
+    /// Counts a ground that was held against the ledger, of a book of this shape.
+    pub fn add_ground(&mut self, shape: Shape, is_exact: bool) {
+        let is_unbounded = shape.n() <= shape.k() + 1;
+        let kinds = GROUNDS[usize::from(is_unbounded)];
+        self.grounds.add(kinds[usize::from(!is_exact)]);
+    }
+
     /// All traces, a list counting as one.
     pub fn traces(&self) -> u64 {
         self.ways.total()
@@ -130,6 +151,11 @@ impl Summary {
     /// How often each kind of trace, of day and of room was met.
     pub fn met(&self) -> &Tally {
         &self.met
+    }
+
+    /// How often each kind of ground was held against the ledger.
+    pub fn grounds(&self) -> &Tally {
+        &self.grounds
     }
 
     /// What never occurred in a run that is long enough for it.
@@ -144,6 +170,7 @@ impl Summary {
             &self.splits,
             &self.met,
             &self.lists,
+            &self.grounds,
         ];
         tallies.into_iter().flat_map(Tally::faults).collect()
     }
@@ -155,6 +182,7 @@ impl Display for Summary {
         write!(f, "{traces} traces ({}), {replays} replays, ", self.ways)?;
         write!(f, "all equal; {}; records: {}", self.replays, self.answers)?;
         write!(f, "; deliveries: {}; lists: {}", self.splits, self.lists)?;
+        write!(f, "; grounds of lists: {}", self.grounds)?;
         write!(f, "; kinds met: {}", self.met.total())
     }
 }

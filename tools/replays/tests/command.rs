@@ -3,6 +3,7 @@
 use books::pair::WordDifference;
 use options::{Trials, Words};
 use reference::calls::{Answer, Call};
+use reference::ground::{Finer, Ground};
 use reference::ledger::Ledger;
 use reference::shape::Shape;
 use replays::command::read;
@@ -10,6 +11,7 @@ use replays::difference::{Difference, Of, What};
 use replays::implementation::Archive;
 use replays::list::agrees;
 use replays::run::{run, Failure};
+use replays::summary::GROUNDS;
 
 #[test]
 fn options() {
@@ -43,6 +45,10 @@ fn every_kind_is_met_often() {
     for kind in draw::trace::met::all() {
         let count = summary.met().count(&kind);
         assert!(count >= 20, "{kind}: {count}");
+    }
+    for (kind, least) in GROUNDS.concat().into_iter().zip([1_000, 5, 1_000, 300]) {
+        let count = summary.grounds().count(kind);
+        assert!(count >= least, "{kind}: {count}");
     }
 }
 
@@ -145,4 +151,31 @@ fn differences_in_words() {
     };
     let text = "seed 1, trace 7\ncall Clock { clock: 3 }: refused 10, the ledger: ok";
     assert_eq!(failure.to_string(), text);
+}
+
+#[test]
+fn a_ground_in_words() {
+    let [grade, window] = [0, 3];
+    let difference = |found| Difference::Ground {
+        call: Call::Query { grade, window },
+        expected: Ok(Answer::Sum(17)),
+        found,
+    };
+    let ground = Ground {
+        sum: 4,
+        level: 2,
+        limit: 12,
+        finer: Finer::First(2),
+    };
+    for (found, text) in [
+        (
+            Some(Ok(ground)),
+            "Ground { sum: 4, level: 2, limit: 12, finer: First(2) }",
+        ),
+        (Some(Err(5)), "refused 5 (ground)"),
+        (None, "no ground"),
+    ] {
+        let text = format!("call Query {{ grade: 0, window: 3 }}: {text}, the ledger: = 17");
+        assert_eq!(difference(found).to_string(), text);
+    }
 }

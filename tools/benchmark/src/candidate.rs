@@ -1,4 +1,7 @@
-//! What is measured: three implementations of the same calls, and two bare reads.
+//! What is measured: three implementations of the same calls, grounds in place of questions, and two bare
+//! reads.
+
+use std::hint::black_box;
 
 use litres::Refused;
 use rivals::{Calls, Fast, Plain};
@@ -29,6 +32,15 @@ pub const CANDIDATES: [Candidate; 3] = [
     by_hand::<Plain>(),
     by_hand::<Fast>(),
 ];
+
+/// The static library, with a ground for each question. It answers the ground's sum, once all of it is there.
+pub const GROUNDS: Candidate = Candidate {
+    query: |book, grade, window| {
+        let ground = litres::ground(book, grade, window).map_err(number)?;
+        Ok(black_box(ground).sum)
+    },
+    ..CANDIDATES[0]
+};
 
 const fn by_hand<C: Calls>() -> Candidate {
     Candidate {

@@ -6,8 +6,9 @@ use options::Words;
 pub const USAGE: &str = "\
 usage: benchmark [--rounds N] [--twice]
 
-Times the calls of the static library beside hand-written Rust, the replay of a day beside its calls
-one by one and the merge of two days beside a copy, and prints the tables.
+Times the calls of the static library beside hand-written Rust, a ground beside its question, the
+replay of a day beside its calls one by one and the merge of two days beside a copy, and prints the
+tables.
   --rounds N  timed batches of each candidate for each row, at least 1 (601); a sixth as many days
               and merges
   --twice     measures all a second time and tells how far the ratios moved";

@@ -2,7 +2,6 @@
 //! call, on the same book and with the same answers.
 
 use std::hint::black_box;
-use std::time::Instant;
 
 use draw::shapes::SITE;
 use reference::calls::{Answer, Call};
@@ -13,7 +12,7 @@ use reference::trace::{lay_out, record};
 
 use crate::candidate::{Candidate, CANDIDATES};
 use crate::load::{Load, ARRIVALS_PER_CLOCK, DELIVERIES};
-use crate::measure::Times;
+use crate::measure::{in_turns, time, Times};
 use crate::report;
 
 /// Records of the day.
@@ -60,16 +59,10 @@ pub fn run(rounds: usize) -> Times<2> {
     let mut load = Load::new(shape, 3);
     let rounds = rounds.div_ceil(ROUNDS_PER_DAY);
     eprintln!("replaying {rounds} days");
-    let mut times = Vec::new();
-    for round in 0..=rounds {
+    Times::of_rounds(rounds, |round| {
         let calls = day(shape, grown[layout::CLOCK], &mut load);
-        let time = measure(&grown, &calls, round);
-        // The first round only warms up.
-        if round > 0 {
-            times.push(time);
-        }
-    }
-    Times::new(times)
+        measure(&grown, &calls, round)
+    })
 }
 
 /// Both perform the same day on the same words in the same buffers, each coming first in every other
@@ -79,26 +72,24 @@ fn measure(grown: &[u32], calls: &[Call], round: usize) -> [f64; 2] {
     let trace = lay_out(&[records.collect::<Vec<_>>().concat()]);
     let (mut book, mut answers) = (grown.to_vec(), vec![0; ANSWER_WORDS * calls.len()]);
     let mut left = Vec::new();
-    let mut time = [0.0; 2];
-    for turn in 0..2 {
-        let timed = (turn + round) % 2;
+    let times = in_turns(round, |timed| {
         book.copy_from_slice(grown);
         answers.fill(u32::MAX);
-        let start = Instant::now();
-        if timed == REPLAYED {
-            let (book, answers) = black_box((&mut book, &mut answers));
-            litres::replay(book, black_box(&trace), 0, answers).expect("a day with room");
-        } else {
-            separately(&CANDIDATES[report::LIBRARY], &mut book, calls, &mut answers);
-        }
-        let elapsed = start.elapsed();
-        time[timed] = elapsed.as_secs_f64() * 1e6 / calls.len() as f64;
+        let time = time(calls.len(), || {
+            if timed == REPLAYED {
+                let (book, answers) = black_box((&mut book, &mut answers));
+                litres::replay(book, black_box(&trace), 0, answers).expect("a day with room");
+            } else {
+                separately(&CANDIDATES[report::LIBRARY], &mut book, calls, &mut answers);
+            }
+        });
         left.push((book.clone(), answers.clone()));
-    }
+        time
+    });
     assert!(left[0] == left[1], "replay and separate calls differ");
     let numbers = left[0].1.iter().step_by(ANSWER_WORDS);
     assert_eq!(numbers.max(), Some(&0), "a record was refused");
-    time
+    times
 }
 
 /// Each call by itself, its answer written as a replay writes it.

@@ -18,8 +18,8 @@ pub const TIMED: usize = CANDIDATES.len() + READS.len();
 const WORDS_PER_BATCH: usize = 1 << 18;
 
 /// Microseconds, round by round, for each of those that are timed side by side: of one call the static
-/// library, (a), (b), (c) and (c4); of a replayed day the separate calls and the replay, for a record; of
-/// merged days the copy and two merges.
+/// library, (a), (b), (c) and (c4); of questions each with its ground; of a replayed day the separate calls
+/// and the replay, for a record; of merged days the copy and two merges.
 pub struct Times<const N: usize = TIMED> {
     rounds: Vec<[f64; N]>,
 }
@@ -32,6 +32,12 @@ impl<const N: usize> Times<N> {
         rounds.sort_by(|one, other| whole(one).total_cmp(&whole(other)));
         rounds.truncate(rounds.len().div_ceil(10));
         Times { rounds }
+    }
+
+    /// So many rounds, after one that only warms up.
+    pub fn of_rounds(rounds: usize, round: impl FnMut(usize) -> [f64; N]) -> Times<N> {
+        let times = (0..=rounds).map(round);
+        Times::new(times.skip(1).collect())
     }
 
     /// The median time of one candidate.
@@ -51,6 +57,24 @@ fn median(mut values: Vec<f64>) -> f64 {
     values[values.len() / 2]
 }
 
+/// The times of one round, in which each of those that are timed, named by its place, comes first as often as
+/// any other.
+pub fn in_turns<const N: usize>(round: usize, mut time: impl FnMut(usize) -> f64) -> [f64; N] {
+    let mut times = [0.0; N];
+    for turn in 0..N {
+        let timed = (turn + round) % N;
+        times[timed] = time(timed);
+    }
+    times
+}
+
+/// Microseconds for each of the so many calls of some work.
+pub fn time(calls: usize, work: impl FnOnce()) -> f64 {
+    let start = Instant::now();
+    work();
+    start.elapsed().as_secs_f64() * 1e6 / calls as f64
+}
+
 /// One kind of call on copies of a grown book.
 pub struct Row<'a> {
     /// The call.
@@ -59,6 +83,16 @@ pub struct Row<'a> {
     pub shape: Shape,
     /// The grown book.
     pub grown: &'a [u32],
+}
+
+impl Row<'_> {
+    /// A batch that is long enough to be timed.
+    pub fn batch(&self, load: &mut Load) -> Batch {
+        let Row { kind, shape, grown } = *self;
+        let inspected = Batch::inspected(kind, shape, 0).len();
+        let calls = (WORDS_PER_BATCH / inspected).clamp(2, 256) as u32;
+        Batch::new(kind, shape, grown[layout::CLOCK], load, calls)
+    }
 }
 
 /// Times rows side by side, each once a round, so that what else the machine does hits all alike.
@@ -91,29 +125,23 @@ impl Words {
     /// buffer, one after another, and must leave the same words and answer the same numbers.
     fn round(&mut self, row: &Row, load: &mut Load, round: usize) -> [f64; TIMED] {
         let Row { kind, shape, grown } = *row;
-        let inspected = Batch::inspected(kind, shape, 0).len();
-        let calls = (WORDS_PER_BATCH / inspected).clamp(2, 256) as u32;
-        let batch = Batch::new(kind, shape, grown[layout::CLOCK], load, calls);
+        let batch = row.batch(load);
         let mut answers = [0; CANDIDATES.len()];
-        let mut time = [0.0; TIMED];
         self.expected.clear();
-        for turn in 0..TIMED {
-            // Each comes first as often as any other.
-            let timed = (turn + round) % TIMED;
+        let times = in_turns(round, |timed| {
             self.book.clear();
             self.book.extend_from_slice(grown);
-            let start = Instant::now();
-            if let Some(candidate) = CANDIDATES.get(timed) {
-                answers[timed] = batch.perform(candidate, &mut self.book);
-            } else {
-                let read = READS[timed - CANDIDATES.len()];
-                for number in 0..batch.len() as u32 {
-                    let words = &self.book[Batch::inspected(kind, shape, number)];
-                    black_box(read(black_box(words)));
+            let time = time(batch.len(), || {
+                if let Some(candidate) = CANDIDATES.get(timed) {
+                    answers[timed] = batch.perform(candidate, &mut self.book);
+                } else {
+                    let read = READS[timed - CANDIDATES.len()];
+                    for number in 0..batch.len() as u32 {
+                        let words = &self.book[Batch::inspected(kind, shape, number)];
+                        black_box(read(black_box(words)));
+                    }
                 }
-            }
-            let elapsed = start.elapsed();
-            time[timed] = elapsed.as_secs_f64() * 1e6 / batch.len() as f64;
+            });
             if timed < CANDIDATES.len() {
                 if self.expected.is_empty() {
                     self.expected.extend_from_slice(&self.book);
@@ -121,16 +149,17 @@ impl Words {
                 let equal = self.book == self.expected;
                 assert!(equal, "the candidates leave different words");
             }
-        }
+            time
+        });
         let equal = answers.iter().all(|answer| *answer == answers[0]);
         assert!(equal, "the candidates give different answers");
-        time
+        times
     }
 }
 
 #[cfg(test)]
 mod tests {
-    use super::{Times, TIMED};
+    use super::{in_turns, Times, TIMED};
 
     #[test]
     fn the_fastest_tenth_counts() {
@@ -141,5 +170,24 @@ mod tests {
         assert_eq!(times.median(0), 2.0);
         assert_eq!(times.median(2), 6.0);
         assert_eq!(times.ratio(3, 1), 2.0);
+    }
+
+    #[test]
+    fn the_first_round_does_not_count() {
+        let times = Times::of_rounds(1, |round| [round as f64]);
+        assert_eq!(times.median(0), 1.0);
+    }
+
+    #[test]
+    fn each_comes_first_in_its_turn() {
+        for round in 0..6 {
+            let mut order = Vec::new();
+            let times = in_turns(round, |timed| {
+                order.push(timed);
+                timed as f64
+            });
+            assert_eq!(times, [0.0, 1.0, 2.0]);
+            assert_eq!(order[0], round % 3);
+        }
     }
 }

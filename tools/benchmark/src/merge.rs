@@ -3,13 +3,12 @@
 //! in step.
 
 use std::hint::black_box;
-use std::time::Instant;
 
 use draw::random::Random;
 use reference::merge::home_clocks;
 use reference::trace::{lay_out, pairs_end, Record, CLOCK, DELIVERY, QUERY, RECORD_WORDS};
 
-use crate::measure::Times;
+use crate::measure::{in_turns, time, Times};
 use crate::report;
 
 /// Records of each day.
@@ -102,29 +101,25 @@ pub fn run(rounds: usize) -> Times<3> {
     let rounds = rounds.div_ceil(ROUNDS_PER_MERGE);
     eprintln!("merging {rounds} times");
     let mut pairs = [RECORDS, 2 * RECORDS].map(Pair::new);
-    // The first round only warms up.
-    let times = (0..=rounds).map(|round| measure(&mut pairs, round));
-    Times::new(times.skip(1).collect())
+    Times::of_rounds(rounds, |round| measure(&mut pairs, round))
 }
 
 /// Each of the three comes first in every third round.
 fn measure(pairs: &mut [Pair; 2], round: usize) -> [f64; 3] {
-    let mut time = [0.0; 3];
-    for turn in 0..3 {
-        let timed = (turn + round) % 3;
+    in_turns(round, |timed| {
         let pair = &mut pairs[usize::from(timed == TWICE)];
         pair.output.fill(u32::MAX);
-        let start = Instant::now();
-        if timed == COPIED {
-            pair.copy();
-        } else {
-            pair.merge();
-        }
-        time[timed] = start.elapsed().as_secs_f64() * 1e6;
+        let time = time(1, || {
+            if timed == COPIED {
+                pair.copy();
+            } else {
+                pair.merge();
+            }
+        });
         let merged = pair.output == pair.expected;
         assert_eq!(merged, timed != COPIED, "a merge and a copy differ");
-    }
-    time
+        time
+    })
 }
 
 /// The times as Markdown.

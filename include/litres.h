@@ -167,7 +167,7 @@ uint32_t litres_query(const uint32_t *book, size_t len, uint32_t grade, uint32_t
  *   LITRES_GROUND_SUM     the sum that litres_query gives for the same grade and window
  *   LITRES_GROUND_LEVEL   the level that gave it, 0 to m
  *   LITRES_GROUND_LIMIT   by how many decilitres it is off at most: 0 on level 0, else
- *                         2^level * (k + 1). The books for which this holds stand above.
+ *                         2^level * (k + 1). Of which books that is true stands above.
  *   LITRES_GROUND_CASE    one of three:
  *     LITRES_CASE_WINDOW_ZERO   window 0, for which sum, level and limit are 0
  *     LITRES_CASE_LEVEL_ZERO    another window, and level 0 gave the sum

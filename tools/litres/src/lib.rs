@@ -1,9 +1,9 @@
 //! The proved calls over a borrowed slice of words, for Rust.
 //!
 //! The static library `capi` does all the work; here its C functions get Rust's types. A slice meets
-//! the conditions of `include/litres.h`: its words are there, aligned and used by nobody else. A sum
-//! and a count of halvings are returned by value, so they cannot lie within the book. A refusal displays
-//! the header's text.
+//! the conditions of `include/litres.h`: its words are there, aligned and used by nobody else. A sum, a
+//! ground and a count of halvings are returned by value, so they cannot lie within the book. A refusal
+//! displays the header's text.
 //!
 //! ```
 //! let (k, n, m, g) = (2, 2, 4, 1);
@@ -28,7 +28,7 @@
 //!     litres::delivery(&mut book, 0, stamp, volume)?;
 //! }
 //! let ground = litres::ground(&book, 0, 3)?;
-//! assert_eq!((ground.sum, ground.level, ground.limit), (4, 2, 12)); // 5 decilitres were delivered
+//! assert_eq!((ground.sum, ground.level, ground.limit), (4, 2, 12)); // the true sum is 5
 //! assert_eq!(ground.finer, Finer::First(2)); // level 1 keeps stamps from 2 on, and the window opens at 1
 //! assert_eq!(litres::ground(&book, 0, 2)?.finer, Finer::LevelZero); // exact
 //! assert_eq!(litres::ground(&book, 0, 0)?.finer, Finer::WindowZero);

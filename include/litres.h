@@ -187,8 +187,8 @@ uint32_t litres_ground(const uint32_t *book, size_t len, uint32_t grade, uint32_
 
 /*
  * Finds a day: *start is its first word in the trace and *length how many words it has, so that it
- * is the part trace + *start of the caller's own words. A refused call writes 0 to both. `start` and
- * `length` must point to two size_t that may be written.
+ * is the part trace + *start of the caller's own words. A refused call writes 0 to both. `start`
+ * and `length` must point to two size_t that may be written.
  * Refused, in this order: 13 (any record of any day counts), 14.
  */
 uint32_t litres_day(const uint32_t *trace, size_t trace_len, uint32_t day, size_t *start,
@@ -208,17 +208,18 @@ uint32_t litres_replay(uint32_t *book, size_t len, const uint32_t *trace, size_t
                        uint32_t day, uint32_t *answers, size_t answers_len);
 
 /*
- * Merges two days into one, such as those of two controllers at one site, and writes it to `out`. It
- * has every record of both days. Each day's own order is kept, and clocks never fall, where the
+ * Merges two days into one, such as those of two controllers at one site, and writes it to `out`.
+ * It has every record of both days. Each day's own order is kept, and clocks never fall, where the
  * clock of a record is that of the last clock record up to it in its own day. Which of the two days
  * comes first among records of equal clock is undecided: do not rely on what this version does. A
  * day may be empty, and a day may be merged with itself.
- * `out_len` must be exactly the lengths of the two days together, which litres_day gives. A day that
- * is not empty must open with a clock record, and its clocks must neither fall nor pass 2000000000.
- * Only records are written. With the words 1, 3 and out_len before them they are a trace of which
- * the merged day is the only one, as long as out_len is below 2^32. Replayed on a book that is not
- * damaged and whose clock is not past the day's first, each record meets the clock that it had in
- * its own day. A delivery can still be refused there, also 12 because of the other day's deliveries.
+ * `out_len` must be exactly the lengths of the two days together, which litres_day gives. A day
+ * that is not empty must open with a clock record, and its clocks must neither fall nor pass
+ * 2000000000. Only records are written. With the words 1, 3 and out_len before them they are a
+ * trace of which the merged day is the only one, as long as out_len is below 2^32. Replayed on a
+ * book that is not damaged and whose clock is not past the day's first, each record meets the clock
+ * that it had in its own day. A delivery can still be refused there, also 12 because of the other
+ * day's deliveries.
  * Refused, in this order: 13 (for either trace; any record of any day counts), 14 (for either), 16
  * (for either day; other days do not count), 17. The number does not tell which of the two it is:
  * for 13 and 14, litres_day of each trace does.

@@ -104,7 +104,7 @@ module _ (s : Shape) (ws : List ℕ) (w : Whole s ws) (parity : ℕ) (p : parity
   unfolding decodeHalf
   index-serves a =
       let r = serving-index a (levelAt s parity ws) (s .last) last-first in
-      (r .0, r .1)
+      (r .0 .low, r .1)
 
 -- the answer, read from the words
 pub answer-decode : (s : Shape) (clock start : ℕ) (ws : List ℕ) → answer s clock start (decodeBlock s ws) ≡ (

@@ -67,7 +67,7 @@ pub fn finer_case(finer: Finer) -> u64
     }
 }
 
-// F of the next finer level, 0 if there is none.
+// F of the next finer level, 0 in the other cases.
 pub fn finer_first(finer: Finer) -> u64
     ensures { λ r. ⌜ r ≡ getD (finerValues finer) 1 0 ⌝ }
 {

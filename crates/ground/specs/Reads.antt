@@ -6,15 +6,15 @@ use native.Mathlib.Nat.{zero-add, mul-le-mul-left, mul-le-mul-right}
 use native.Mathlib.Omega.{arith}
 use lib.ListN.{length, getD, set, length-set}
 use lib.Pow.{pow-mono}
-use borrow.Author.Tests.{eq-eqb, ne-eqb}
+use borrow.Author.Tests.{ne-eqb}
 use Rattle.shape.specs.declared.Shape.{Shape}
 use Rattle.model.specs.declared.Finer.{Finer}
 use Rattle.model.specs.declared.Finer.the-variants.{WindowZero, LevelZero, First}
 use Rattle.model.specs.declared.Ground.{Ground}
-use Rattle.model.specs.Level.{Level, levelOf}
+use Rattle.model.specs.Level.{levelOf}
 use Rattle.model.specs.Block.{Half, interval, offsetOf, opening, servingIndex, windowSum}
 use Rattle.model.specs.Words.{levelPart, decodeLevel, decodeHalf, decodeBlock}
-use Rattle.model.specs.Ground.{firstAt, limitOf, finerThan, groundOf, finerValues}
+use Rattle.model.specs.Ground.{firstAt, errorLimit, finerThan, groundOf, finerValues}
 use Rattle.laws.specs.Parts.{getD-upFrom}
 use Rattle.laws.specs.BlockWords.{length-levelPart}
 use Rattle.laws.specs.HalfWrites.{halfOf-decode, levelAt}
@@ -41,7 +41,7 @@ first-decode s parity ws i low =
 abbrev groundIn : Shape → ℕ → ℕ → ℕ → Half → Ground
 groundIn s clock window sum h =
     let level = servingIndex (offsetOf s (opening clock window)) (h .levels) in
-    record { sum = sum; level = level; limit = limitOf (s .k) level; finer = finerThan (h .levels) level }
+    record { sum = sum; level = level; limit = errorLimit (s .k) level; finer = finerThan (h .levels) level }
 
 module _ (s : Shape) (clock window : ℕ) (ws : List ℕ) where
   pub ground-opened : (window ≡ 0 → ⊥)
@@ -51,11 +51,6 @@ module _ (s : Shape) (clock window : ℕ) (ws : List ℕ) where
   ground-opened some =
       rw (ne-eqb window 0 some)
       (ap (groundIn s clock window (windowSum s clock window (decodeBlock s ws))) (sym (halfOf-decode s (interval s (opening clock window)) ws)))
-
-  -- window 0
-  pub ground-none : window ≡ 0 → record { sum = 0; level = 0; limit = 0; finer = WindowZero } ≡ groundOf s clock window (decodeBlock s ws)
-  unfolding groundOf windowSum
-  ground-none none = rw (eq-eqb window 0 none)
 
 -- the two values of what stands for F of the next finer level
 pub finer-two : (f : Finer) → getD (finerValues f) 0 0 ∷ getD (finerValues f) 1 0 ∷ [] ≡ finerValues f

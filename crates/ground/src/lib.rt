@@ -17,7 +17,7 @@ ghost use mathlib.Core.Path.{_≡_};
 ghost use Prim.Native.Nat.{_≤_, _<_};
 ghost use lib.ListN.{length};
 ghost use Rattle.model.specs.Words.{decodeHalf, decodeBlock};
-ghost use Rattle.model.specs.Ground.{limitOf, finerThan, groundOf, groundReply, groundValues, ground};
+ghost use Rattle.model.specs.Ground.{errorLimit, finerThan, groundOf, groundReply, groundValues, ground};
 ghost use Rattle.model.specs.declared.Call.the-variants as Call;
 ghost use Rattle.laws.specs.Proper.{Whole};
 ghost use Rattle.block.specs.Steps.{LevelIn};
@@ -25,9 +25,9 @@ ghost use Rattle.book.specs.Judgement.{firstRefusal};
 ghost use Rattle.judge.specs.Judge.{Open};
 
 // The limit of error of a level.
-fn limit_of(k: u8, level: u8) -> u64
+fn error_limit(k: u8, level: u8) -> u64
     requires { ⌜ (k ≤ 20) × (level ≤ 24) ⌝ }
-    ensures { λ r. ⌜ r ≡ limitOf k level ⌝ }
+    ensures { λ r. ⌜ r ≡ errorLimit k level ⌝ }
 {
     if level == 0 {
         return 0;
@@ -47,7 +47,7 @@ fn finer_than(block: &[u32], s: Shape, parity: u8, level: u8) -> Finer
     Finer::First(words[1])
 }
 
-// The ground of a window above 0: all but the sum is read in the half in which the window opens.
+// The ground of a window above 0: level and F are those of the half in which the window opens.
 fn opened_ground(block: &[u32], s: Shape, clock: u32, window: u32) -> Ground
     requires { ⌜ Whole s (now block) × (0 < window) ⌝ }
     ensures { λ r. ⌜ r ≡ groundOf s clock window (decodeBlock s (now (block .entry))) ⌝ }
@@ -56,7 +56,7 @@ fn opened_ground(block: &[u32], s: Shape, clock: u32, window: u32) -> Ground
     let parity = parity(interval(s, start));
     let level = finest(block, s, parity, offset(s, start));
     let sum = window_sum(block, s, clock, window);
-    let limit = limit_of(s.k, level);
+    let limit = error_limit(s.k, level);
     let finer = finer_than(block, s, parity, level);
     Ground {
         sum,

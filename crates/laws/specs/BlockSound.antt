@@ -35,34 +35,40 @@ insertAll-upFrom n x v f i zero = refl
 insertAll-upFrom n x v f i (suc c) = ap (λ ls. insert n i x v (f i) ∷ ls) (insertAll-upFrom n x v f (suc i) c)
 
 -- level i is the finest with F at most a, and it is the level l
-pub record Serves (a : ℕ) (levels : List Level) (i : ℕ) (l : Level) : Type 0 where
+pub record FinestIs (a : ℕ) (levels : List Level) (i : ℕ) (l : Level) : Type 0 where
   pub finest : Finest a levels i
   pub same : getD levels i (levelOf 0 []) ≡ l
 
 module _ (a : ℕ) (l : Level) (ls : List Level) where
-  serves-here : l .first ≤ a → Serves a (l ∷ ls) 0 l
-  serves-here h = record { finest = record { among = omega arith; held = h; finer = λ j before. absurd (omega arith) }; same = refl }
+  finest-here : l .first ≤ a → FinestIs a (l ∷ ls) 0 l
+  finest-here h = record { finest = record { among = omega arith; held = h; past = λ j before. absurd (omega arith) }; same = refl }
 
-  serves-later : a < l .first → (i : ℕ) (m : Level) → Serves a ls i m → Serves a (l ∷ ls) (suc i) m
-  serves-later above i m r = record {
-    finest = record { among = omega (arith, r .finest .among); held = r .finest .held; finer = finer };
+  finest-later : a < l .first → (i : ℕ) (m : Level) → FinestIs a ls i m → FinestIs a (l ∷ ls) (suc i) m
+  finest-later above i m r = record {
+    finest = record { among = omega (arith, r .finest .among); held = r .finest .held; past = past };
     same = r .same;
   }
     where
-      finer : (j : ℕ) → j < suc i → a < firstAt (l ∷ ls) j
-      finer zero before = above
-      finer (suc j) before = r .finest .finer j (omega arith)
+      past : (j : ℕ) → j < suc i → a < firstAt (l ∷ ls) j
+      past zero before = above
+      past (suc j) before = r .finest .past j (omega arith)
 
--- so it is with the level of the serving index and the one that serves, if any level has F at most a
-pub serves : (a : ℕ) (levels : List Level) (i : ℕ) → i < length levels → firstAt levels i ≤ a → Serves a levels (servingIndex a levels) (serving a levels)
-serves a [] i h held = absurd (omega arith)
-serves a (l ∷ ls) zero h held = rw (le-leb (l .first) a held) (serves-here a l ls held)
-serves a (l ∷ ls) (suc i) h held =
+-- if some level has F at most a, the serving index is that of the finest such one, and this is the level that serves
+finest-serves : (a : ℕ) (levels : List Level) (i : ℕ) → i < length levels → firstAt levels i ≤ a → FinestIs a levels (servingIndex a levels) (serving a levels)
+finest-serves a [] i h held = absurd (omega arith)
+finest-serves a (l ∷ ls) zero h held = rw (le-leb (l .first) a held) (finest-here a l ls held)
+finest-serves a (l ∷ ls) (suc i) h held =
     ⊎-elim
     (λ (above : a < l .first).
-    rw (lt-leb (l .first) a above) (serves-later a l ls above (servingIndex a ls) (serving a ls) (serves a ls i (omega arith) held)))
-    (λ (here : l .first ≤ a). rw (le-leb (l .first) a here) (serves-here a l ls here))
+    rw (lt-leb (l .first) a above) (finest-later a l ls above (servingIndex a ls) (serving a ls) (finest-serves a ls i (omega arith) held)))
+    (λ (here : l .first ≤ a). rw (le-leb (l .first) a here) (finest-here a l ls here))
     (lt-or-ge a (l .first))
+
+-- level i of levels 0 to `last` serves a: no finer one does
+pub record ServesAt (a : ℕ) (f : ℕ → Level) (last i : ℕ) : Type 0 where
+  pub low : i ≤ last
+  pub held : f i .first ≤ a
+  pub past : (j : ℕ) → j < i → a < f j .first
 
 -- levels 0 to `last`, of which the last has evicted nothing
 module _ (a : ℕ) (f : ℕ → Level) (last : ℕ) (whole : f last .first ≡ 0) where
@@ -72,17 +78,23 @@ module _ (a : ℕ) (f : ℕ → Level) (last : ℕ) (whole : f last .first ≡ 0
   level-is : (i : ℕ) → i ≤ last → getD levels i (levelOf 0 []) ≡ f i
   level-is i h = rw zero-add at (getD-upFrom f 0 (suc last) i (levelOf 0 []) (omega arith))
 
-  serves-upFrom : Serves a levels (servingIndex a levels) (serving a levels)
-  serves-upFrom =
-      serves a levels last (omega (arith, length-upFrom f 0 (suc last))) (rw (level-is last (omega arith)) (omega (arith, whole)))
+  serving-finest : FinestIs a levels (servingIndex a levels) (serving a levels)
+  serving-finest =
+      finest-serves a levels last (omega (arith, length-upFrom f 0 (suc last))) (rw (level-is last (omega arith)) (omega (arith, whole)))
 
-  -- the serving index is that of one of them, and this one serves
-  pub serving-index : let i = servingIndex a levels in (i ≤ last) × (f i ≡ serving a levels) × (f i .first ≤ a)
+  -- the level of the serving index serves a, and it is the one that `serving` gives
+  pub serving-index : ServesAt a f last (servingIndex a levels) × (f (servingIndex a levels) ≡ serving a levels)
   serving-index =
       let i : ℕ = servingIndex a levels in
-      let r = serves-upFrom in
-      let low : i ≤ last = omega (arith, r .finest .among, length-upFrom f 0 (suc last)) in
-      (low, sym (level-is i low) ∙ r .same, rw (level-is i low, firstAt) at (r .finest .held))
+      let r = serving-finest in
+      let low : i ≤ last = omega (arith, r .finest .among, length-upFrom f 0 (suc last)) in (
+        record {
+          low = low;
+          held = rw (level-is i low, firstAt) at (r .finest .held);
+          past = λ j before. rw (level-is j (omega arith), firstAt) at (r .finest .past j before);
+        },
+        sym (level-is i low) ∙ r .same,
+      )
 
 module _ (s : Shape) (proper : Proper s) where
   -- an empty half is sound
@@ -146,5 +158,5 @@ module _ (s : Shape) (proper : Proper s) where
       sound-serves (proper .limits .low-n) (half-level s h y (s .last) (omega arith)) (omega (arith, y .total, pow-pos (s .m)))
 
   -- so one of the levels serves each opening: its F is at most the opening, and no finer level's is
-  pub half-serves : (h : Half) → HalfSound s h → (a : ℕ) → Serves a (h .levels) (servingIndex a (h .levels)) (serving a (h .levels))
-  half-serves h y a = rw (y .levels) (serves-upFrom a (y .levelAt) (s .last) (last-whole h y))
+  pub half-serves : (h : Half) → HalfSound s h → (a : ℕ) → FinestIs a (h .levels) (servingIndex a (h .levels)) (serving a (h .levels))
+  half-serves h y a = rw (y .levels) (serving-finest a (y .levelAt) (s .last) (last-whole h y))

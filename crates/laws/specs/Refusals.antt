@@ -1,6 +1,6 @@
 -- The first refusal that holds, what it decides, and what follows of the view if a call is accepted. Assumes nothing.
 use mathlib.Core.Bool.{Bool, true, false, true≢false, cond, not, _||_}
-use mathlib.Core.Path.{_≡_, refl, sym, _∙_}
+use mathlib.Core.Path.{_≡_, refl, sym, ap, _∙_}
 use mathlib.Core.List.{List}
 use Prim.Native.Nat.{ℕ, zero, suc, _+_, _^_, _≤_, _<_}
 use native.Mathlib.Omega.{arith}
@@ -8,7 +8,7 @@ use lib.Dec.{ltb, eqb}
 use lib.ListN.{length}
 use borrow.Author.Tests.{eq-eqb, ne-eqb, not-false, ltb-true, ltb-false, leb-false, eqb-true}
 use Rattle.shape.specs.declared.Shape.{Shape}
-use Rattle.shape.specs.Limits.{refused, within, shaped}
+use Rattle.shape.specs.Limits.{Reply, refused, within, shaped}
 use Rattle.shape.specs.Layout.{headLen, bookWords}
 use Rattle.model.specs.declared.Call.{Call}
 use Rattle.model.specs.declared.Call.the-variants.{Make, Clock, Delivery, Query}
@@ -18,7 +18,7 @@ use Rattle.model.specs.Reply.{numberOf}
 use Rattle.model.specs.Block.{late, interval, halfOf}
 use Rattle.model.specs.Words.{blockPart, decodeBlock}
 use Rattle.model.specs.Sound.{allFrom, maxClock, soundHead, soundBlock}
-use Rattle.model.specs.Calls.{View, firstOf, opened, refusals, Outcome, outcomeOf, settle, bookView, accept, perform}
+use Rattle.model.specs.Calls.{View, firstOf, answered, opened, refusals, Outcome, outcomeOf, settle, bookView, accept, perform}
 use Rattle.model.specs.Ledger.{Ledger, ledgerView, note, enter}
 use Rattle.laws.specs.Cond.{by-eq}
 
@@ -63,22 +63,24 @@ pub further : (a : Bool) (x : ℕ) {y z : ℕ} → (x ≡ z → ⊥) → cond a 
 further true x other h = absurd (other h)
 further false x other h = (refl, h)
 
+-- the number of an answer is that of the first refusal that holds
+pub answered-number : (rs : List (Bool × ℕ)) (done : Reply) → done .number ≡ 0 → answered rs done .number ≡ firstOf rs
+answered-number rs done h = by-eq (firstOf rs) 0 (λ (r : Reply). r .number ≡ firstOf rs) (λ none. h ∙ sym none) (λ some. refl)
+
 module _ {A : Type 0} (rs : List (Bool × ℕ)) (before : A) (done : Outcome A) where
   pub settle-accepted : firstOf rs ≡ 0 → settle rs before done ≡ done
   settle-accepted h = rw (eq-eqb (firstOf rs) 0 h)
 
-  -- the number of the reply is that of the first refusal that holds
-  pub settle-number : done .reply .number ≡ 0 → settle rs before done .reply .number ≡ firstOf rs
-  settle-number h =
-      by-eq (firstOf rs) 0 (λ (o : Outcome A). o .reply .number ≡ firstOf rs) (λ none. h ∙ sym none) (λ some. refl)
-
   -- the reply is that of what is done, or the first refusal
-  pub settle-reply : settle rs before done .reply ≡ cond (eqb (firstOf rs) 0) (done .reply) (refused (firstOf rs))
+  pub settle-reply : settle rs before done .reply ≡ answered rs (done .reply)
   settle-reply = go (eqb (firstOf rs) 0)
     where
       go : (t : Bool) → cond t done (outcomeOf (refused (firstOf rs)) before) .reply ≡ cond t (done .reply) (refused (firstOf rs))
       go true = refl
       go false = refl
+
+  settle-number : done .reply .number ≡ 0 → settle rs before done .reply .number ≡ firstOf rs
+  settle-number h = ap (λ (r : Reply). r .number) settle-reply ∙ answered-number rs (done .reply) h
 
   pub settle-refused : (firstOf rs ≡ 0 → ⊥) → settle rs before done ≡ outcomeOf (refused (firstOf rs)) before
   settle-refused h = rw (ne-eqb (firstOf rs) 0 h)

@@ -1,22 +1,21 @@
 -- Grades do not touch (SPECIFICATION 10): a delivery changes no word outside its grade's block, no answer to a question or a delivery of
--- another grade, and no ground of one, on words of any content. Rests on the codec's laws and on soundness being kept.
-use mathlib.Core.Bool.{Bool, true, false, cond}
+-- another grade, and no ground of another grade, on words of any content. Rests on the codec's laws and on soundness being kept.
+use mathlib.Core.Bool.{Bool}
 use mathlib.Core.Path.{_≡_, refl, sym, ap, ap₂, _∙_}
 use mathlib.Core.Logic.{_⊎_, inl, ⊎-elim, _≢_}
 use mathlib.Core.List.{List, [], _∷_}
 use Prim.Native.Nat.{ℕ, _+_, _≤_, _<_}
 use native.Mathlib.Omega.{arith}
-use lib.Dec.{eqb}
 use lib.ListN.{length, getD}
 use Rattle.shape.specs.declared.Shape.{Shape}
-use Rattle.shape.specs.Limits.{Reply, accepted, splitting, refused}
+use Rattle.shape.specs.Limits.{Reply, accepted, splitting}
 use Rattle.shape.specs.Layout.{headLen, bookWords, blockWords, blockStart}
 use Rattle.model.specs.declared.Call.{Call}
 use Rattle.model.specs.declared.Call.the-variants.{Delivery, Query}
 use Rattle.model.specs.Block.{Block, interval, halfOf, windowSum, deliver, deliverSplits}
 use Rattle.model.specs.Words.{shapeOf, clockOf, blockPart, decodeBlock, encodeBlock, withBlock}
 use Rattle.model.specs.Sound.{soundHead, soundBlock}
-use Rattle.model.specs.Calls.{View, blockAt, firstOf, refusals, bookView, accept, perform, delivered}
+use Rattle.model.specs.Calls.{View, blockAt, firstOf, answered, refusals, bookView, accept, perform, delivered}
 use Rattle.model.specs.Ground.{groundOf, groundValues, ground}
 use Rattle.laws.specs.Cond.{eq-or-ne}
 use Rattle.laws.specs.Proper.{Proper}
@@ -38,16 +37,12 @@ blockView lent headSound s clock block = record {
   total = λ _ stamp. halfOf (interval s stamp) (decodeBlock s block) .total;
 }
 
--- its reply, which is `done` if it is accepted
-abbrev judged : View → Call → Reply → Reply
-judged v call done = let number = firstOf (refusals v call) in cond (eqb number 0) done (refused number)
-
 -- a reply that depends on nothing else: the call by which it is judged, and what it is if this call is accepted
 record OfGrade (grade : ℕ) (reply : List ℕ → Reply) : Type 0 where
   pub call : Call
   pub done : Shape → ℕ → Block → Reply
   pub told : (ws : List ℕ) → let s = shapeOf ws in
-      reply ws ≡ judged (blockView (length ws) (soundHead ws) s (clockOf ws) (blockPart s grade ws)) call (done s (clockOf ws) (blockAt ws grade))
+      reply ws ≡ answered (refusals (blockView (length ws) (soundHead ws) s (clockOf ws) (blockPart s grade ws)) call) (done s (clockOf ws) (blockAt ws grade))
 
 of-question : (grade window : ℕ) → OfGrade grade (λ ws. perform ws (Query grade window) .reply)
 unfolding perform refusals bookView
@@ -62,7 +57,7 @@ unfolding ground refusals bookView
 of-ground grade window = record {
   call = Query grade window;
   done = λ s clock b. accepted (groundValues (groundOf s clock window b));
-  told = λ ws. settle-reply (refusals (bookView ws) (Query grade window)) ws _;
+  told = λ ws. refl;
 }
 
 of-delivery : (grade stamp volume : ℕ) → OfGrade grade (λ ws. perform ws (Delivery grade stamp volume) .reply)
@@ -93,7 +88,7 @@ module _ (ws vs : List ℕ) (lengths : length vs ≡ length ws) (heads : (i : �
 
   reply-same : (grade : ℕ) (reply : List ℕ → Reply) → OfGrade grade reply → blockPart (shapeOf ws) grade vs ≡ blockPart (shapeOf ws) grade ws → reply vs ≡ reply ws
   reply-same grade reply of parts =
-      let by : Shape → List ℕ → Reply = λ s block. judged (blockView (length ws) (soundHead ws) s (clockOf ws) block) (of .call) (of .done s (clockOf ws) (decodeBlock s block)) in
+      let by : Shape → List ℕ → Reply = λ s block. answered (refusals (blockView (length ws) (soundHead ws) s (clockOf ws) block) (of .call)) (of .done s (clockOf ws) (decodeBlock s block)) in
       let part : blockPart (shapeOf vs) grade vs ≡ blockPart (shapeOf ws) grade ws = ap (λ (s : Shape). blockPart s grade vs) shape-same ∙ parts in
       of .told vs ∙ rw (lengths, head-same, heads 4 (omega arith)) (ap₂ by shape-same part) ∙ sym (of .told ws)
 

@@ -151,7 +151,7 @@ module _ (l : Ledger) (good : Good l) where
   abbrev turn : Call → Turn
   turn call = record { call = call; words = ws; ledger = l; book = perform ws call .reply; exact = enter (length ws) l call .reply }
 
-  -- what depends on the shape, the clock and the block of a grade depends on the ledger's
+  -- a function of the shape, the clock and a grade's block has the same value of those that the ledger gives
   of-ledger : {A : Type 0} (f : Shape → ℕ → Block → A) (grade : ℕ) → grade < s .g
       → f (shapeOf ws) (clockOf ws) (blockAt ws grade) ≡ f s clock (blockFor s clock es (ofGrade grade))
   of-ledger f grade h = rw (words-clock l good) (ap₂ (λ (z : Shape). f z clock) (words-shape l good) (block-is l good grade h))

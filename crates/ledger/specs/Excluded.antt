@@ -1,5 +1,5 @@
--- What the claim (demand 3) alone excludes: a book that answers every question with one number, and a book whose deliveries store nothing.
--- If the claim is made of such a book, a list of calls refutes it. Rests on the definitions alone.
+-- What the bound of the claim (demand 3) excludes by itself: a book that answers every question with one number, and a book whose deliveries
+-- store nothing. If the bound is claimed of all runs of such a book, a list of calls refutes it. Rests on the definitions alone.
 use mathlib.Core.Path.{_≡_, refl}
 use mathlib.Core.List.{List, [], _∷_, map}
 use Prim.Native.Nat.{ℕ, _+_, _*_, _≤_}
@@ -15,14 +15,14 @@ use Rattle.model.specs.Words.{decodeLevel, decodeHalf, decodeBlock, encodeLevel
 use Rattle.model.specs.Sound.{soundHead, soundLevel, soundHalf, soundBlock}
 use Rattle.model.specs.Calls.{Outcome, outcomeOf, refusals, bookView, made, clocked, delivered, perform}
 use Rattle.model.specs.Ledger.{Ledger, ledgerOf, ledgerView, enter}
-use Rattle.model.specs.Claim.{Turn, runCalls, once, Kept, Claim}
+use Rattle.model.specs.Claim.{Turn, runCalls, once, Each, Bound, Kept, Claim}
 use Rattle.ledger.specs.Steps.{expand, expand-once, run-expand, each-as-turns}
 
 -- a book is a way to perform calls
 abbrev pub Book : Type 0
 Book = List ℕ → Call → Outcome (List ℕ)
 
--- a run of such a book, and the claim about it
+-- a run of such a book, what is said of all of its runs, and the claim about it
 unfoldable pub runOf : Book → List ℕ → Ledger → List Call → List Turn
 runOf book ws l [] = []
 runOf book ws l (call ∷ calls) =
@@ -30,9 +30,12 @@ runOf book ws l (call ∷ calls) =
     let noted = enter (length ws) l call in
     record { call = call; words = ws; ledger = l; book = done .reply; exact = noted .reply } ∷ runOf book (done .left) (noted .left) calls
 
+abbrev pub AllRuns : (List Turn → Type 0) → Book → Type 0
+AllRuns P book = (before : List ℕ) (k n m g : ℕ) → book before (Make k n m g) .reply .number ≡ 0 → (calls : List Call)
+    → P (runOf book (book before (Make k n m g) .left) (ledgerOf (shaped k n m g) 0 []) calls)
+
 abbrev pub ClaimOf : Book → Type 0
-ClaimOf book = (before : List ℕ) (k n m g : ℕ) → book before (Make k n m g) .reply .number ≡ 0 → (calls : List Call)
-    → Kept (runOf book (book before (Make k n m g) .left) (ledgerOf (shaped k n m g) 0 []) calls)
+ClaimOf = AllRuns Kept
 
 -- for the true book it is the claim itself: a replay counts as its calls
 run-same : (ws : List ℕ) (l : Ledger) (calls : List Call) → runOf perform ws l calls ≡ runCalls ws l calls
@@ -68,12 +71,12 @@ constantSum c ws call =
     outcomeOf (record { number = done .reply .number; values = constant c (done .reply .values); splits = done .reply .splits }) (done .left)
 
 -- without deliveries the sum is 0, and after one decilitre 0 is wrong
-pub constant-excluded : (c : ℕ) → ClaimOf (constantSum c) → ⊥
+pub constant-excluded : (c : ℕ) → AllRuns (Each Bound) (constantSum c) → ⊥
 unfolding runOf perform refusals bookView made clocked delivered soundHead soundBlock soundHalf soundLevel within encodeBlock encodeLevel decodeBlock decodeHalf decodeLevel emptyHalf deliver deliverHalf advance answer windowSum unit insert blockWords bookWords blockStart levelStart enter ledgerView
-constant-excluded c claim =
-    let kept = claim (replicate (bookWords (shaped 2 10 2 1)) 0) 2 10 2 1 refl (Query 0 4 ∷ Delivery 0 0 1 ∷ Query 0 4 ∷ []) in
-    let none : c * 7 ≤ 0 = kept .bound .0 refl (omega arith) .above in
-    let one : 1 * 7 ≤ c * 7 + 2 * 3 * 1 = kept .bound .1 .1 .0 refl (omega arith) .below in
+constant-excluded c bound =
+    let kept = bound (replicate (bookWords (shaped 2 10 2 1)) 0) 2 10 2 1 refl (Query 0 4 ∷ Delivery 0 0 1 ∷ Query 0 4 ∷ []) in
+    let none : c * 7 ≤ 0 = kept .0 refl (omega arith) .above in
+    let one : 1 * 7 ≤ c * 7 + 2 * 3 * 1 = kept .1 .1 .0 refl (omega arith) .below in
     omega arith
 
 -- ---- a delivery that stores nothing
@@ -84,9 +87,9 @@ storesNothing ws (Clock to) = perform ws (Clock to)
 storesNothing ws (Delivery grade stamp volume) = outcomeOf (perform ws (Delivery grade stamp volume) .reply) ws
 storesNothing ws (Query grade window) = perform ws (Query grade window)
 
-pub nothing-excluded : ClaimOf storesNothing → ⊥
+pub nothing-excluded : AllRuns (Each Bound) storesNothing → ⊥
 unfolding runOf perform refusals bookView made clocked delivered soundHead soundBlock soundHalf soundLevel within encodeBlock encodeLevel decodeBlock decodeHalf decodeLevel emptyHalf deliver deliverHalf advance answer windowSum unit insert blockWords bookWords blockStart levelStart enter ledgerView
-nothing-excluded claim =
-    let kept = claim (replicate (bookWords (shaped 2 10 2 1)) 0) 2 10 2 1 refl (Delivery 0 0 1 ∷ Query 0 4 ∷ []) in
-    let one : 1 * 7 ≤ 0 * 7 + 2 * 3 * 1 = kept .bound .1 .0 refl (omega arith) .below in
+nothing-excluded bound =
+    let kept = bound (replicate (bookWords (shaped 2 10 2 1)) 0) 2 10 2 1 refl (Delivery 0 0 1 ∷ Query 0 4 ∷ []) in
+    let one : 1 * 7 ≤ 0 * 7 + 2 * 3 * 1 = kept .1 .0 refl (omega arith) .below in
     omega arith

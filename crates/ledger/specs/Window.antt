@@ -13,7 +13,7 @@ use Rattle.shape.specs.declared.Shape.{Shape}
 use Rattle.model.specs.Block.{Half, interval, offsetOf, opening, answer, windowSum, sumFrom, serving, servingIndex}
 use Rattle.model.specs.BlockLaws.{covers-none, windowSum-none, windowSum-some}
 use Rattle.model.specs.Ledger.{Entry, Ledger, volumeOf, ofInterval, ofWindow}
-use Rattle.model.specs.Ground.{openedLevels, levelFor, limitOf}
+use Rattle.model.specs.Ground.{openedLevels, levelFor, errorLimit}
 use Rattle.model.specs.Claim.{Each, Admits, Near}
 use Rattle.laws.specs.Cond.{lt-or-ge, eq-or-ne, and-false}
 use Rattle.theory.specs.Fed.{counted}
@@ -207,7 +207,7 @@ module _ (l : Ledger) (good : Good l) where
       rw (windowSum-some s clock window (blockFor s clock es p) other) (opened-relates R more p window some w (half some)))
       (eq-or-ne window 0)
 
-  -- if no interval of these entries has more than 2^M
+  -- for entries of which no interval has more than 2^M
   module _ (p : Entry → Bool) (few : (j : ℕ) → volumeOf (ofInterval s p j) es ≤ 2 ^ s .m) where
     small : (j : ℕ) → counted (events s (ofInterval s p j) es) 0 < s .n * 2 ^ s .last
     small j = omega (arith, counted-all s (ofInterval s p j) es, few j, good .reach)
@@ -226,7 +226,7 @@ module _ (l : Ledger) (good : Good l) where
 
     -- the limit of the level that serves a window above 0
     opened-limited : (window : ℕ) → 0 < window → window ≤ 2 ^ s .k → let b = blockFor s clock es p in
-        Near (limitOf (s .k) (servingIndex (offsetOf s (opening clock window)) (openedLevels s clock window b))) (windowSum s clock window b)
+        Near (errorLimit (s .k) (servingIndex (offsetOf s (opening clock window)) (openedLevels s clock window b))) (windowSum s clock window b)
         (volumeOf (ofWindow clock p window) es)
     unfolding halfFed
     opened-limited window some w =
@@ -234,8 +234,8 @@ module _ (l : Ledger) (good : Good l) where
         let j : ℕ = interval s start in
         let a : ℕ = offsetOf s start in
         let q : Entry → Bool = ofInterval s p j in
-        let limit : ℕ = limitOf (s .k) (servingIndex a (halfFor s q es .levels)) in
-        subst (λ (h : Half). Near (limitOf (s .k) (servingIndex a (h .levels))) (windowSum s clock window (blockFor s clock es p)) (volumeOf (ofWindow clock p window) es))
+        let limit : ℕ = errorLimit (s .k) (servingIndex a (halfFor s q es .levels)) in
+        subst (λ (h : Half). Near (errorLimit (s .k) (servingIndex a (h .levels))) (windowSum s clock window (blockFor s clock es p)) (volumeOf (ofWindow clock p window) es))
         (sym (halfOf-served s clock es p j (interval-mono s (omega arith)) (interval-near s start clock (omega arith))))
         (sum-relates (Near limit) (near-more limit) near-none p window w
         (λ _. rw (← counted-events s q a es)
@@ -243,7 +243,7 @@ module _ (l : Ledger) (good : Good l) where
 
     -- the limit of the level used
     pub sum-limited : (window : ℕ) → window ≤ 2 ^ s .k → let b = blockFor s clock es p in
-        Near (limitOf (s .k) (levelFor s clock window b)) (windowSum s clock window b) (volumeOf (ofWindow clock p window) es)
+        Near (errorLimit (s .k) (levelFor s clock window b)) (windowSum s clock window b) (volumeOf (ofWindow clock p window) es)
     sum-limited window w =
         ⊎-elim
         (λ (none : window ≡ 0).

@@ -17,6 +17,9 @@ abbrev pub firstOf : List (Bool × ℕ) → ℕ  -- SPECIFICATION 6.1: the numbe
 firstOf [] = 0
 firstOf (r ∷ rs) = cond (r .0) (r .1) (firstOf rs)
 
+abbrev pub answered : List (Bool × ℕ) → Reply → Reply  -- SPECIFICATION 6.1: refused under that number, or this reply where it is 0
+answered refusals done = let number = firstOf refusals in cond (eqb number 0) done (refused number)
+
 pub record Outcome (A : Type 0) : Type 0 where  -- SPECIFICATION 5.1: what a call answers and what it leaves, which is a book's words or a ledger
   pub reply : Reply
   pub left : A

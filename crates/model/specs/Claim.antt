@@ -14,7 +14,7 @@ use Rattle.model.specs.Calls.{perform}
 use Rattle.model.specs.Trace.{recordsOf, callOf, foundDay}
 use Rattle.model.specs.Replay.{withAnswers, replayCalls, replay}
 use Rattle.model.specs.Ground.{ground}
-use Rattle.model.specs.Ledger.{Ledger, ledgerOf, volumeOf, ofGrade, ofWindow, enter}
+use Rattle.model.specs.Ledger.{Ledger, ledgerOf, ofGrade, exactSum, enter}
 
 pub record Turn : Type 0 where  -- SPECIFICATION 9.1, one call of a run: the words and the ledger before it, the book's reply and the ledger's
   pub call : Call
@@ -78,11 +78,9 @@ pub record Near (limit x y : ℕ) : Type 0 where  -- x and y differ by at most t
 
 abbrev pub Grounds : Turn → Type 0  -- SPECIFICATION 9.7: an answered question has a ground, and the ledger's sum of the grade's entries in the window differs from the ground's sum by at most its limit, whatever n is
 Grounds t =
-    let l = t .ledger in
     OfQuery (λ grade window. t .book .number ≡ 0 →
     let given = ground (t .words) grade window in
-    (given .number ≡ 0)
-    × Near (getD (given .values) 2 0) (getD (given .values) 0 0) (volumeOf (ofWindow (l .clock) (ofGrade grade) window) (l .entries))) (t .call)
+    (given .number ≡ 0) × Near (getD (given .values) 2 0) (getD (given .values) 0 0) (exactSum (t .ledger) (ofGrade grade) window)) (t .call)
 
 abbrev pub Span : (Turn → Type 0) → List Turn → Type 0  -- SPECIFICATION 9.4: P holds of every turn up to the next accepted make, which ends the span
 Span P [] = Unit {0}

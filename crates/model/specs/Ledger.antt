@@ -36,6 +36,9 @@ ofInterval s p j e = p e && eqb (interval s (e .stamp)) j
 abbrev pub ofWindow : ℕ → (Entry → Bool) → ℕ → Entry → Bool  -- an entry that satisfies a test, whose stamp the window covers
 ofWindow clock p window e = p e && covers clock window (e .stamp)
 
+abbrev pub exactSum : Ledger → (Entry → Bool) → ℕ → ℕ  -- SPECIFICATION 8: the sum over a window of the entries that satisfy a test
+exactSum l p window = volumeOf (ofWindow (l .clock) p window) (l .entries)
+
 unfoldable pub ledgerView : ℕ → Ledger → View  -- SPECIFICATION 8: 7 and 11 never hold; a half's total is the sum of the ledger's own entries
 ledgerView lent l = record {
   lent = lent;
@@ -51,7 +54,7 @@ note l (Make k n m g) = outcomeOf (accepted []) (ledgerOf (shaped k n m g) 0 [])
 note l (Clock clock) = outcomeOf (accepted []) (ledgerOf (l .shape) clock (l .entries))
 note l (Delivery grade stamp volume) =
     outcomeOf (accepted []) (ledgerOf (l .shape) (l .clock) (record { grade = grade; stamp = stamp; volume = volume } ∷ l .entries))
-note l (Query grade window) = outcomeOf (accepted (volumeOf (ofWindow (l .clock) (ofGrade grade) window) (l .entries) ∷ [])) l
+note l (Query grade window) = outcomeOf (accepted (exactSum l (ofGrade grade) window ∷ [])) l
 
 unfoldable pub enter : ℕ → Ledger → Call → Outcome Ledger  -- SPECIFICATION 8: a call that is lent so many words
 enter lent l call = settle (refusals (ledgerView lent l) call) l (note l call)

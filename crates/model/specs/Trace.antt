@@ -4,13 +4,13 @@ use mathlib.Core.List.{List, [], _∷_}
 use Prim.Native.Nat.{ℕ, zero, suc, _+_, _*_, _/_, _%_}
 use lib.Dec.{leb, ltb, eqb}
 use lib.ListN.{length, getD, take, drop}
-use Rattle.shape.specs.Limits.{Reply, refused, accepted}
+use Rattle.shape.specs.Limits.{Reply, accepted}
 use Rattle.model.specs.declared.Call.{Call}
 use Rattle.model.specs.declared.Call.the-variants.{Clock, Delivery, Query}
 use Rattle.model.specs.declared.Record.{Record}
 use Rattle.model.specs.Block.{upFrom}
 use Rattle.model.specs.Sound.{allFrom}
-use Rattle.model.specs.Calls.{firstOf}
+use Rattle.model.specs.Calls.{firstOf, answered}
 
 abbrev pub maxDays : ℕ  -- SPECIFICATION 16.1: the most days of a trace
 maxDays = 64
@@ -84,9 +84,7 @@ abbrev pub dayRefusals : List ℕ → ℕ → List (Bool × ℕ)  -- SPECIFICATI
 dayRefusals trace day = (not (soundTrace trace), 13) ∷ (not (ltb day (dayCount trace)), 14) ∷ []
 
 unfoldable pub dayReply : List ℕ → ℕ → Reply  -- SPECIFICATION 16.3: where the day starts and its length, or the refusal
-dayReply trace day =
-    let number = firstOf (dayRefusals trace day) in
-    cond (eqb number 0) (accepted (dayStart trace day ∷ dayLength trace day ∷ [])) (refused number)
+dayReply trace day = answered (dayRefusals trace day) (accepted (dayStart trace day ∷ dayLength trace day ∷ []))
 
 unfoldable pub foundDay : List ℕ → ℕ → List ℕ  -- SPECIFICATION 16.3: that part of the trace, an empty one where it is refused
 foundDay trace day = cond (eqb (firstOf (dayRefusals trace day)) 0) (dayPart trace day) []

@@ -34,14 +34,14 @@ pub enum Answer {
     Refused(Refusal),
 }
 
-// What stands for F of the next finer level than the one used.
+// F of the next finer level, or why it is not told.
 pub enum Finer {
     WindowZero, // The window is 0, so no level was read.
     LevelZero, // Level 0 was used for another window; no level is finer.
     First(u32), // F of the next finer level.
 }
 
-// The ground of a sum: the level used, and the limit of error.
+// The ground of a sum: the sum, the level used, the limit of error, and F of the next finer level.
 pub struct Ground {
     pub sum: u64,
     pub level: u8,

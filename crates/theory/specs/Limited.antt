@@ -8,7 +8,7 @@ use native.Mathlib.Omega.{arith}
 use borrow.Author.Tests.{ne-eqb}
 use Rattle.model.specs.Level.{Level}
 use Rattle.model.specs.Block.{upFrom, sumFrom, serving, servingIndex}
-use Rattle.model.specs.Ground.{limitOf}
+use Rattle.model.specs.Ground.{errorLimit}
 use Rattle.model.specs.Claim.{Near}
 use Rattle.laws.specs.InsertSound.{sound-serves}
 use Rattle.laws.specs.BlockSound.{serving-index}
@@ -16,7 +16,7 @@ use Rattle.theory.specs.Fed.{Event, fed, counted, Inside, fed-sound, fed
 
 module _ (k n : ℕ) (two : 2 ≤ n) (es : List Event) (inside : Inside k es) (a : ℕ) (low : a < 2 ^ k) where
   abbrev Limited : ℕ → Level → Type 0
-  Limited i l = Near (limitOf k i) (sumFrom a (l .buckets)) (counted es a)
+  Limited i l = Near (errorLimit k i) (sumFrom a (l .buckets)) (counted es a)
 
   -- level 0 is exact; the error of another level is at most k + 1 times 2 ^ i
   held-limited : (i : ℕ) → fed k n i es .first ≤ a → Limited i (fed k n i es)
@@ -29,4 +29,4 @@ module _ (k n : ℕ) (two : 2 ≤ n) (es : List Event) (inside : Inside k es) (a
       → let levels = upFrom (λ i. fed k n i es) 0 (suc last) in Limited (servingIndex a levels) (serving a levels)
   fed-limited last small =
       let r = serving-index a (λ i. fed k n i es) last (sound-serves two (fed-sound k n last two es inside) small) in
-      rw (sym (r .1)) (held-limited _ (r .2))
+      rw (sym (r .1)) (held-limited _ (r .0 .held))

@@ -1,16 +1,16 @@
 -- The relative bound: the sum of the finest level that serves offset a differs from the exact one by at most the factor of SPECIFICATION
 -- 9.3. Rests on the error of a level and on how much the next finer one has counted. Assumes nothing.
-use mathlib.Core.Path.{_≡_, ap}
+use mathlib.Core.Path.{_≡_, sym, ap}
 use mathlib.Core.List.{List}
 use Prim.Native.Nat.{ℕ, zero, suc, _+_, _-_, _*_, _^_, _≤_, _<_}
-use native.Mathlib.Nat.{zero-add, add-mul, add-zero, add-suc, suc-add, mul-le-mul-left, mul-le-mul-right}
+use native.Mathlib.Nat.{add-mul, mul-le-mul-left, mul-le-mul-right}
 use native.Mathlib.Omega.{arith}
 use Rattle.model.specs.Level.{Level}
 use Rattle.model.specs.Block.{sumFrom, serving, upFrom}
 use Rattle.model.specs.Claim.{Admits, Near}
-use Rattle.laws.specs.Cond.{by-le}
 use Rattle.laws.specs.Unit.{Tracks}
 use Rattle.laws.specs.InsertSound.{sound-serves}
+use Rattle.laws.specs.BlockSound.{serving-index}
 use Rattle.theory.specs.Near.{tracks-near, tracks-crowded}
 use Rattle.theory.specs.Fed.{Event, fed, counted, Inside, fed-tracks, fed-sound}
 
@@ -42,11 +42,15 @@ module _ (k n total : ℕ) (c : ℕ → ℕ) (l : ℕ → Level) (tracks : (i : 
       ratio (sumFrom a (l (suc j) .buckets)) (c a) (2 ^ j) k n (omega arith)
       (rw twice at (tracks-near (tracks (suc j)) a held (omega arith))) (tracks-crowded (tracks j) (omega arith) a gone)
 
-  -- levels i to i + d, of which the last has evicted nothing
-  serving-answers : (d i : ℕ) → Gone i → l (i + d) .first ≡ 0 → Answers (serving a (upFrom l i (suc d)))
-  serving-answers zero i gone whole = by-le (l i .first) a Answers (held-answers i gone) (λ above. absurd (omega (arith, rw add-zero at whole)))
-  serving-answers (suc d) i gone whole =
-      by-le (l i .first) a Answers (held-answers i gone) (λ above. serving-answers d (suc i) above (rw (add-suc, ← suc-add) at whole))
+  -- of levels 0 to `last`, of which the last has evicted nothing, the one that serves a
+  serving-answers : (last : ℕ) → l last .first ≡ 0 → Answers (serving a (upFrom l 0 (suc last)))
+  serving-answers last whole =
+      let r = serving-index a l last whole in
+      rw (sym (r .1)) (held-answers _ (gone _ (r .0 .past)) (r .0 .held))
+    where
+      gone : (i : ℕ) → ((j : ℕ) → j < i → a < l j .first) → Gone i
+      gone zero past = tt
+      gone (suc j) past = past j (omega arith)
 
 -- levels 0 to `last`, of which the last has evicted nothing: the finest that serves a keeps the bound
 pub relative : (k n last : ℕ) (es : List Event) → Inside k es → k + 1 < n → counted es 0 < n * 2 ^ last → (a : ℕ) → a < 2 ^ k
@@ -54,7 +58,7 @@ pub relative : (k n last : ℕ) (es : List Event) → Inside k es → k + 1 < n 
 relative k n last es inside room small a h =
     let two : 2 ≤ n = omega arith in
     let whole : fed k n last es .first ≡ 0 = sound-serves two (fed-sound k n last two es inside) small in
-    serving-answers k n (counted es 0) (counted es) (λ i. fed k n i es) (λ i. fed-tracks k n i two es inside) room a h last 0 tt (rw zero-add whole)
+    serving-answers k n (counted es 0) (counted es) (λ i. fed k n i es) (λ i. fed-tracks k n i two es inside) room a h last whole
 
 -- adding the same exact volume on both sides keeps the bound
 pub admits-more : (n k book exact more : ℕ) → Admits n k book exact → Admits n k (book + more) (exact + more)

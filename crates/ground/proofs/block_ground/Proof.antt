@@ -1,14 +1,16 @@
 -- Window 0 is answered at once, another one from its opening.
+use mathlib.Core.Path.{sym}
 use native.Mathlib.Omega.{arith}
 use borrow.Author.Needs.{needs}
-use Rattle.ground.specs.Reads.{ground-none}
+use Rattle.model.specs.Words.{decodeBlock}
+use Rattle.laws.specs.GroundLaws.{ground-none}
 use Rattle.ground.proofs.block_ground.Statement.{statement}
 use Rattle.ground.proofs.block_ground.Tie as tie
 
 returns : tie.Need-returns
 returns c =
     let a = c .before .before .args in
-    ground-none (a .s) (a .clock) (a .window) (a .block .now) (c .if1 .taken)
+    sym (ground-none (a .s) (a .clock) (a .window) (decodeBlock (a .s) (a .block .now)) (c .if1 .taken))
 
 opened-ground-requires : tie.Need-opened-ground-requires
 opened-ground-requires c κs = (c .before .before .pre, omega (arith, c .if1 .left))

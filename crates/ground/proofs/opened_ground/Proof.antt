@@ -1,6 +1,5 @@
 -- The level found is one of the half in which the window opens, and it serves; the limit and F go by it.
-use mathlib.Core.Path.{_≡_}
-use Prim.Native.Nat.{ℕ, _≤_}
+use Prim.Native.Nat.{_≤_}
 use native.Mathlib.Omega.{arith}
 use borrow.Author.Needs.{needs}
 use Rattle.block.specs.Steps.{index-serves}
@@ -32,8 +31,8 @@ finest-requires c κs = search needs
 window-sum-requires : tie.Need-window-sum-requires
 window-sum-requires c κs = search needs
 
-limit-of-requires : tie.Need-limit-of-requires
-limit-of-requires c κs =
+error-limit-requires : tie.Need-error-limit-requires
+error-limit-requires c κs =
     let d = c .before .before .before .before .before .before .before in
     (d .pre .0 .proper .limits .high-k, omega (arith, found (c .before), d .pre .0 .proper .last, d .pre .0 .proper .limits .high-m))
 
@@ -55,7 +54,7 @@ returns c =
     rw (
       ← ground-opened (a .s) (a .clock) (a .window) (a .block .now) (λ e. omega (arith, d .pre .1)),
       w .window-sum .ensures,
-      l .limit-of .ensures,
+      l .error-limit .ensures,
       c .finer-than .ensures,
       f .finest .ensures,
       o .offset .ensures,
@@ -74,6 +73,6 @@ opened-ground-spec =
     offset-requires
     finest-requires
     window-sum-requires
-    limit-of-requires
+    error-limit-requires
     finer-than-requires
     returns)

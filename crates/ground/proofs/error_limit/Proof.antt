@@ -5,8 +5,8 @@ use lib.Pow.{shl-exact}
 use borrow.Author.Needs.{needs}
 use borrow.Author.Tests.{eq-eqb, ne-eqb}
 use Rattle.ground.specs.Reads.{limit-fits}
-use Rattle.ground.proofs.limit_of.Statement.{statement}
-use Rattle.ground.proofs.limit_of.Tie as tie
+use Rattle.ground.proofs.error_limit.Statement.{statement}
+use Rattle.ground.proofs.error_limit.Tie as tie
 
 returns : tie.Need-returns
 returns c = rw (eq-eqb _ _ (c .if1 .taken))
@@ -29,5 +29,5 @@ returns-2 c =
     let s = shl-exact {a = 1} 1 (a .level) 64 (omega arith) (omega arith) in
     rw (ne-eqb (a .level) 0 (c .if1 .left), s, one-mul)
 
-pub limit-of-spec : {M : Type 1} → statement M
-limit-of-spec = tie.close (tie.spec returns shl-result add-result mul-result returns-2)
+pub error-limit-spec : {M : Type 1} → statement M
+error-limit-spec = tie.close (tie.spec returns shl-result add-result mul-result returns-2)

@@ -47,6 +47,7 @@
  *   - the pointer is aligned for uint32_t and is not null, even where the count is 0;
  *   - all words may be read and, where the pointer is not to const, written;
  *   - no other thread writes any of them during the call, nor reads any that the call may write;
+ *   - no other thread uses the variables and the ground that a call writes while it runs;
  *   - words that a call may write, and the variables and grounds that it writes, overlap nothing
  *     else that it is given; words that it only reads may overlap each other.
  * There are no other conditions on them: every length, all words and all numbers get an answer.
@@ -163,11 +164,12 @@ uint32_t litres_query(const uint32_t *book, size_t len, uint32_t grade, uint32_t
                       uint64_t *sum);
 
 /*
- * Tells where the sum of litres_query comes from. Writes LITRES_GROUND_LEN numbers to `ground`:
+ * Tells where the sum of litres_query comes from. Writes LITRES_GROUND_LEN numbers, each at the
+ * place of `ground` that has its name:
  *   LITRES_GROUND_SUM     the sum that litres_query gives for the same grade and window
  *   LITRES_GROUND_LEVEL   the level that gave it, 0 to m
  *   LITRES_GROUND_LIMIT   by how many decilitres it is off at most: 0 on level 0, else
- *                         2^level * (k + 1). Of which books that is true stands above.
+ *                         2^level * (k + 1). For which books that holds is said above.
  *   LITRES_GROUND_CASE    one of three:
  *     LITRES_CASE_WINDOW_ZERO   window 0, for which sum, level and limit are 0
  *     LITRES_CASE_LEVEL_ZERO    another window, and level 0 gave the sum
@@ -176,7 +178,8 @@ uint32_t litres_query(const uint32_t *book, size_t len, uint32_t grade, uint32_t
  * A book keeps what a grade has in an interval on levels 0 to m, of which 0 is the finest. F of a
  * level is the first tick that it still keeps, counted from the start of the interval. A window
  * above 0 is answered by a level of the interval in which it opens: the finest one whose F is not
- * past the opening. So F of every finer level is past it.
+ * past the opening. So F of every finer level is past it. If the window opens in the interval
+ * before the clock's, the total of the clock's interval is added; that part is exact.
  * No word of the book changes. Of the grades' words only this one's are inspected. `ground` must
  * point to LITRES_GROUND_LEN uint64_t that may be written and that lie outside the book. A refused
  * call writes none of them.

@@ -72,7 +72,7 @@ Bound t =
     let s = t .ledger .shape in
     OfQuery (λ grade window. t .book .number ≡ 0 → s .k + 1 < s .n → Admits (s .n) (s .k) (getD (t .book .values) 0 0) (getD (t .exact .values) 0 0)) (t .call)
 
-pub record Near (limit x y : ℕ) : Type 0 where  -- x and y differ by at most the limit
+pub record Near (limit x y : ℕ) : Type 0 where  -- SPECIFICATION 9.7: x and y differ by at most the limit
   pub above : x ≤ y + limit
   pub below : y ≤ x + limit
 

@@ -20,7 +20,7 @@ use Rattle.model.specs.Sound.{soundBook}
 use Rattle.model.specs.Calls.{answered, refusals, bookView, blockAt}
 use Rattle.model.specs.Reply.{numberOf}
 
-abbrev pub firstAt : List Level → ℕ → ℕ  -- F of level i
+abbrev pub firstAt : List Level → ℕ → ℕ  -- SPECIFICATION 20.1: F of level i
 firstAt levels i = getD levels i (levelOf 0 []) .first
 
 abbrev pub openedLevels : Shape → ℕ → ℕ → Block → List Level  -- SPECIFICATION 20.1: the levels of the half in whose interval a window above 0 opens

@@ -77,7 +77,7 @@ groundTable =
     ∷ record { words = uneven; rows = row 0 3 (values 4 0 0 1 0) ∷ row 0 4 (values 6 2 12 2 2) ∷ [] }
     -- F is not where the first bucket starts
     ∷ record { words = gap; rows = row 0 4 (values 4 1 6 2 1) ∷ [] }
-    -- k is not n, the limit doubles with each level, the next finer F is not the highest, and grade 0 is empty
+    -- here k and n differ, the level is 3, F of the next finer level is not the highest of the finer ones, and grade 0 is empty
     ∷ record { words = steep; rows = row 1 8 (values 12 3 32 2 4) ∷ row 0 8 (values 0 0 0 1 0) ∷ [] }
     -- a damaged book, no head, too few words
     ∷ record { words = set (after p₇) 8 9; rows = row 0 2 (refused 11) ∷ row 0 0 (refused 11) ∷ row 0 5 (refused 5) ∷ [] }

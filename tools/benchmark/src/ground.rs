@@ -21,6 +21,7 @@ const TIMED: usize = 2 * QUESTIONS.len();
 pub fn run(rounds: usize) -> Times<TIMED> {
     let (shape, grown) = report::grown(SITE);
     let batches = batches(shape, &grown);
+    eprintln!("asking for sums and their grounds");
     Times::of_rounds(rounds, |round| measure(&grown, &batches, round))
 }
 

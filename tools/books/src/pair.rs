@@ -121,8 +121,8 @@ impl Pair {
         Ok(expected)
     }
 
-    /// Lends both sides so many words for the ground of a sum, and compares grounds and all words. No stand-in
-    /// in safe Rust can change what it is lent here, so that test is for the archive's machine code alone.
+    /// Lends both sides so many words for the ground of a sum, and compares grounds and all words. Safe Rust
+    /// cannot change what it is lent here. The words are compared for the archive's machine code, which could.
     pub fn ground(
         &self,
         implementation: &impl Implementation,

@@ -246,20 +246,13 @@ fn window_0_as_level_0() {
     });
 }
 
-const OF_WINDOW_0: Ground = Ground {
-    sum: 0,
-    level: 0,
-    limit: 0,
-    finer: Finer::WindowZero,
-};
-
 #[test]
 fn wrong_refusals() {
     for number in [2, 3, 5, 7, 11] {
         assert_found(
             &format!("{number} answered"),
             |book, grade, window| match ground(book, grade, window) {
-                Err(refused) if refused == number => Ok(OF_WINDOW_0),
+                Err(refused) if refused == number => Ok(Ground::OF_WINDOW_ZERO),
                 right => right,
             },
         );
@@ -278,7 +271,7 @@ fn wrong_refusals() {
     });
     assert_found("window 0 before 11", |book, grade, window| {
         match ground(book, grade, window) {
-            Err(11) if window == 0 => Ok(OF_WINDOW_0),
+            Err(11) if window == 0 => Ok(Ground::OF_WINDOW_ZERO),
             right => right,
         }
     });

@@ -5,9 +5,9 @@ use crate::archive::GROUND_LEN;
 /// Why no finer level gave a sum.
 #[derive(Clone, Copy, Debug, PartialEq, Eq, Hash)]
 pub enum Finer {
-    /// It is the sum of window 0, which no level has to give.
+    /// Window 0, for which no level is read.
     WindowZero,
-    /// Another window, and level 0 gave the sum, which is the finest.
+    /// Another window, and level 0 gave the sum. No level is finer.
     LevelZero,
     /// F of the next finer level: the first tick that it keeps, counted from the start of the interval in
     /// which the window opens. The window opens before it.
@@ -22,7 +22,7 @@ pub struct Ground {
     /// The level that gave it; 0 for window 0.
     pub level: u32,
     /// By how many decilitres the sum is off at most, on a book that only the library's calls have written
-    /// since it was made: 0 on level 0, else 2^level * (k + 1).
+    /// since it was made, each given all its words: 0 on level 0, else 2^level * (k + 1).
     pub limit: u64,
     /// Why no finer level gave it.
     pub finer: Finer,

@@ -92,8 +92,6 @@ fn p7_grounds() {
     assert_eq!(ground(&book, 0, 2), expected(3, 0, 0, Finer::LevelZero));
     assert_eq!(ground(&book, 0, 3), expected(4, 2, 12, Finer::First(2)));
     assert_eq!(ground(&book, 0, 5), Err(Refused(5)));
-    assert_eq!(ground(&book, 1, 5), Err(Refused(3)));
-    assert_eq!(ground(&book[..89], 0, 0), Err(Refused(2)));
 }
 
 #[test]

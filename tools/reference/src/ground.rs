@@ -24,7 +24,7 @@ pub struct Ground {
     pub sum: u64,
     /// The level that was used, in the interval in which the window opens; 0 for window 0.
     pub level: u32,
-    /// At most so many decilitres are between the sum and the ledger's, on a book grown from a make.
+    /// The sum and the ledger's differ by at most so many decilitres, on a book grown from a make.
     pub limit: u64,
     /// Why no finer level was used.
     pub finer: Finer,
@@ -32,7 +32,7 @@ pub struct Ground {
 
 impl Ground {
     /// The ground of window 0.
-    const OF_WINDOW_ZERO: Ground = Ground {
+    pub const OF_WINDOW_ZERO: Ground = Ground {
         sum: 0,
         level: 0,
         limit: 0,

@@ -47,8 +47,8 @@ pub enum Difference {
         /// The book's answer.
         found: Reply,
     },
-    /// The ground of a question of a list, which has not the sum or the number of its answer, or from whose
-    /// sum the ledger's is further than its limit.
+    /// The ground of a question of a list: its sum or its number is not that of the answer, or the ledger's
+    /// sum is further from it than the limit.
     Ground {
         /// The question.
         call: Call,

@@ -23,8 +23,8 @@ impl Lent<'_> {
     }
 }
 
-/// An implementation of the calls, of grounds and of traces. What it does not name is the second program's own, so
-/// that a wrong stand-in names only what is wrong.
+/// An implementation of the calls, of grounds and of traces. What it does not name is the second program's
+/// own, so that a wrong stand-in names only what is wrong.
 pub trait Implementation {
     /// The part of a trace that is this day.
     fn find_day<'t>(&self, trace: &'t [u32], day: u32) -> Result<&'t [u32], u32> {

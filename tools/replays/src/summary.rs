@@ -16,8 +16,8 @@ use crate::difference::Asked;
 /// A run of so many traces must show every kind of trace, of replay and of answer.
 pub const TRACES_FOR_ALL: u64 = 4_000;
 
-/// Grounds that were held against the ledger, by whether it has the same sum. Where n is at most k + 1, nothing
-/// but the limit bounds the difference.
+/// Grounds that were held against the ledger, by whether it has the same sum. Where n is at most k + 1,
+/// nothing but the limit bounds the difference.
 pub const GROUNDS: [[&str; 2]; 2] = [
     ["exact", "off"],
     [

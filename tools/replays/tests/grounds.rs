@@ -105,17 +105,11 @@ fn what_is_grounded() {
             finer: Finer::First(3),
         }))
     };
-    for (reply, ground) in [
-        (sum(13), within(13, 0)),
-        (sum(1), within(1, 12)),
-        (sum(25), within(25, 12)),
-        (Err(5), Some(Err(5))),
-    ] {
+    for (reply, ground) in [(sum(13), within(13, 0)), (Err(5), Some(Err(5)))] {
         assert!(grounded(question, reply, ground), "{ground:?}");
     }
-    let wrong: [(Reply, _); 8] = [
+    let wrong: [(Reply, _); 7] = [
         (sum(0), within(0, 12)),
-        (sum(26), within(26, 12)),
         (sum(12), within(13, 12)),
         (sum(13), None),
         (sum(13), Some(Err(5))),

@@ -1,4 +1,4 @@
-// The ground of a sum: the level used, F of the next finer level, the limit of error (SPECIFICATION 20). It only reads.
+// The ground of a sum: the level used, F of the next finer level, the limit of error (SPECIFICATION 20). No word of the book is written.
 use block::finest;
 use block::level_at;
 use block::window_sum;
@@ -100,7 +100,7 @@ pub fn ground(book: &[u32], grade: u32, window: u32) -> Grounded
     }
 }
 
-// Writes the five values of a ground.
+// Writes the five values of a ground over these words.
 fn store_values(g: Ground, out: &mut [u64])
     requires { ⌜ length (now out) ≡ 5 ⌝ }
     ensures { λ _. ⌜ now (out .exit) ≡ groundValues g ⌝ }
@@ -113,6 +113,7 @@ fn store_values(g: Ground, out: &mut [u64])
     out[4] = codes::finer_first(finer);
 }
 
+// The same over an array of five, which needs no test of its length.
 pub fn store(g: Ground, out: &mut [u64; 5])
     ensures { λ _. ⌜ now (out .exit) ≡ groundValues g ⌝ }
 {

@@ -76,7 +76,7 @@ pub record Near (limit x y : ℕ) : Type 0 where  -- SPECIFICATION 9.7: x and y 
   pub above : x ≤ y + limit
   pub below : y ≤ x + limit
 
-abbrev pub Grounds : Turn → Type 0  -- SPECIFICATION 9.7: an answered question has a ground, and the ledger's sum of the grade's entries in the window differs from the ground's sum by at most its limit, whatever n is
+abbrev pub Grounds : Turn → Type 0  -- SPECIFICATION 9.7: an answered question has a ground, whose sum is within its limit of the ledger's sum of the grade's entries in the window, whatever n is
 Grounds t =
     OfQuery (λ grade window. t .book .number ≡ 0 →
     let given = ground (t .words) grade window in

@@ -1,12 +1,13 @@
 //! Grounds of sums: the three cases, the interval in which the window opens, and what a ground says of the
-//! levels, on books of every kind. The worked rows are in examples.rs, the refusals in refusals.rs, the
-//! ledger's part in ledger.rs.
+//! levels, on books of every kind; and which sums a limit admits. The worked rows are in examples.rs, the
+//! refusals in refusals.rs, runs beside the ledger in ledger.rs.
 
 use draw::grounds::{all, draw, firsts, kinds};
 use draw::random::Random;
 use draw::tally::Tally;
-use reference::calls::{clock, deliver, make, query};
+use reference::calls::{clock, deliver, make, query, Call};
 use reference::ground::{ground, Finer, Ground};
+use reference::ledger::Ledger;
 use reference::shape::Shape;
 use reference::soundness::sound_head;
 use reference::window::opening;
@@ -118,4 +119,32 @@ fn grounds_of_drawn_questions() {
         }
     }
     assert_eq!(met.faults(), Vec::<String>::new());
+}
+
+#[test]
+fn limits_include_their_ends() {
+    let shape = Shape::new(2, 2, 4, 1).unwrap();
+    let mut ledger = Ledger::new(shape);
+    let delivery = Call::Delivery {
+        grade: 0,
+        stamp: 2,
+        volume: 13,
+    };
+    for call in [Call::Clock { clock: 3 }, delivery] {
+        ledger.perform(call, shape.book_length()).unwrap();
+    }
+    let admits = |sum, limit| {
+        let finer = Finer::First(1);
+        let level = 2;
+        let ground = Ground {
+            sum,
+            level,
+            limit,
+            finer,
+        };
+        ledger.admits_ground(0, 2, ground)
+    };
+    assert!(admits(13, 0) && !admits(12, 0) && !admits(14, 0));
+    assert!(admits(1, 12) && admits(25, 12));
+    assert!(!admits(0, 12) && !admits(26, 12));
 }

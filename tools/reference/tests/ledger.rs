@@ -7,7 +7,7 @@ use draw::pace::Pace;
 use draw::random::Random;
 use draw::shapes::Makes;
 use reference::calls::{perform, Answer, Call};
-use reference::ground::{ground, Finer, Ground};
+use reference::ground::ground;
 use reference::histogram::Histogram;
 use reference::ledger::Ledger;
 use reference::shape::Shape;
@@ -272,30 +272,6 @@ fn few_slots_still_share_every_refusal() {
         inexact += run.seen.unbounded_inexact;
     }
     assert!(inexact > 300, "{inexact}");
-}
-
-#[test]
-fn limits_of_grounds_include_their_ends() {
-    let mut run = Run::new(shape(2, 2, 4, 1));
-    run.step(Call::Clock { clock: 3 }, 90);
-    let delivery = Call::Delivery {
-        grade: 0,
-        stamp: 2,
-        volume: 13,
-    };
-    run.step(delivery, 90);
-    let admits = |sum, limit| {
-        let ground = Ground {
-            sum,
-            level: 2,
-            limit,
-            finer: Finer::First(1),
-        };
-        run.ledger.admits_ground(0, 2, ground)
-    };
-    assert!(admits(13, 0) && !admits(12, 0) && !admits(14, 0));
-    assert!(admits(1, 12) && admits(25, 12));
-    assert!(!admits(0, 12) && !admits(26, 12));
 }
 
 #[test]

@@ -15,6 +15,7 @@ use Rattle.model.specs.Trace.{recordsOf, callOf, foundDay}
 use Rattle.model.specs.Replay.{withAnswers, replayCalls, replay}
 use Rattle.model.specs.Ground.{ground}
 use Rattle.model.specs.Ledger.{Ledger, ledgerOf, ofGrade, exactSum, enter}
+use Rattle.model.specs.Stamps.{differentStamps}
 
 pub record Turn : Type 0 where  -- SPECIFICATION 9.1, one call of a run: the words and the ledger before it, the book's reply and the ledger's
   pub call : Call
@@ -82,6 +83,12 @@ Grounds t =
     let given = ground (t .words) grade window in
     (given .number ≡ 0) × Near (getD (given .values) 2 0) (getD (given .values) 0 0) (exactSum (t .ledger) (ofGrade grade) window)) (t .call)
 
+abbrev pub Quiet : Turn → Type 0  -- SPECIFICATION 9.8: an answered question has the ledger's reply if the grade's entries, in the interval where its window opens, bear at most n different stamps from its opening on
+Quiet t = OfQuery (λ grade window. t .book .number ≡ 0 → differentStamps (t .ledger) (ofGrade grade) window ≤ t .ledger .shape .n → t .book ≡ t .exact) (t .call)
+
+abbrev pub Short : Turn → Type 0  -- SPECIFICATION 9.8: an answered question with a window of at most n has the ledger's reply, whatever was delivered
+Short t = OfQuery (λ grade window. t .book .number ≡ 0 → window ≤ t .ledger .shape .n → t .book ≡ t .exact) (t .call)
+
 abbrev pub Span : (Turn → Type 0) → List Turn → Type 0  -- SPECIFICATION 9.4: P holds of every turn up to the next accepted make, which ends the span
 Span P [] = Unit {0}
 Span P (t ∷ ts) = let here = P t × Span P ts in ByCall ((t .book .number ≡ 0 → ⊥) → here) here (λ stamp. here) (λ grade window. here) (t .call)
@@ -98,6 +105,8 @@ pub record Kept (turns : List Turn) : Type 0 where  -- what holds of a run
   pub bound : Each Bound turns
   pub missed : Missed turns
   pub grounds : Each Grounds turns
+  pub quiet : Each Quiet turns
+  pub short : Each Short turns
 
 pub record ReplayTurns (ws : List ℕ) (turns : List Turn) (trace : List ℕ) (day : ℕ) (answers : List ℕ) : Type 0 where  -- SPECIFICATION 9.6, a replay
   -- its turns are the calls of the found day's records; a refused one has none

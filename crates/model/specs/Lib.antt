@@ -10,6 +10,7 @@ pub mod Trace
 pub mod Replay
 pub mod Ground
 pub mod Ledger
+pub mod Stamps
 pub mod Claim
 pub mod Merge
 pub mod Home

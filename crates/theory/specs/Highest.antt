@@ -29,6 +29,12 @@ pub record Highest (k n : ℕ) (c : ℕ → ℕ) (l : Level) : Type 0 where
   pub full : 0 < l .first → length (l .buckets) ≡ n
   pub edge : Edge c l
 
+-- the first bucket of a list counts in the sum from its own offset on, and no longer from the next one on
+pub head-counts : (b : Bucket) (bs : List Bucket) → 1 ≤ b .weight → sumFrom (suc (b .offset)) (b ∷ bs) < sumFrom (b .offset) (b ∷ bs)
+head-counts b bs some =
+    let o = b .offset in
+    omega (arith, share-all o (b .weight) o (le-refl o), sumFrom-past b bs (suc o) (omega arith), sumFrom-falls bs o (suc o) (omega arith))
+
 -- ---- the edge is kept
 
 evict-edge : (k n : ℕ) (c : ℕ → ℕ) (first : ℕ) (bs : List Bucket) → Follows k 0 c first bs → Edge c (levelOf first bs) → Edge c (evict n 0 first bs)
@@ -39,7 +45,8 @@ evict-edge k n c first (b ∷ bs) g edge =
     let same : b .offset ≡ f = omega arith in
     let here = g .1 f (omega (arith, g .0 .0 .low)) in
     let next = g .1 (suc f) (omega (arith, g .0 .0 .low)) in
-    omega (arith, g .0 .0 .some, share-all (b .offset) (b .weight) f (omega arith), sumFrom-past b bs (suc f) (omega arith), sumFrom-falls bs f (suc f) (omega arith)))
+    let counts = subst (λ (z : ℕ). sumFrom (suc z) (b ∷ bs) < sumFrom z (b ∷ bs)) same (head-counts b bs (g .0 .0 .some)) in
+    omega (arith, counts))
     (λ _. edge)
 
 module _ (k n : ℕ) (two : 2 ≤ n) (x : ℕ) (inside : x < 2 ^ k) where
@@ -82,9 +89,7 @@ head-shows b bs others some above same =
       arith,
       same o (le-refl o),
       same (suc o) (omega arith),
-      share-all o (b .weight) o (le-refl o),
-      sumFrom-past b bs (suc o) (omega arith),
-      sumFrom-falls bs o (suc o) (omega arith),
+      head-counts b bs some,
       sumFrom-all o others (at-least-less o (suc o) others (omega arith) above),
       sumFrom-all (suc o) others above,
     )
@@ -102,7 +107,7 @@ module _ (k a : ℕ) where
   starts b bs cs r s same =
       head-shows b bs cs (r .0 .some) (rising-above k (suc (b .offset)) (suc (b .offset)) cs (le-refl _) s) (λ t h. same t (omega (arith, r .0 .low)))
 
-  raised-to : (m : ℕ) (d : Bucket) (cs : List Bucket) → m ≤ d .offset → Rising k a (d ∷ cs) → Rising k m (d ∷ cs)
+  pub raised-to : (m : ℕ) (d : Bucket) (cs : List Bucket) → m ≤ d .offset → Rising k a (d ∷ cs) → Rising k m (d ∷ cs)
   raised-to m d cs h s = (record { low = h; high = s .0 .high; one = s .0 .one; some = s .0 .some }, s .1)
 
   same-start : (b d : Bucket) (bs cs : List Bucket) → Rising k a (b ∷ bs) → Rising k a (d ∷ cs) → Same (b ∷ bs) (d ∷ cs) → b .offset ≤ d .offset

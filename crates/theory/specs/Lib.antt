@@ -3,3 +3,4 @@ pub mod Fed
 pub mod Relative
 pub mod Limited
 pub mod Highest
+pub mod Quiet

@@ -10,7 +10,7 @@ use native.Mathlib.Omega.{arith}
 use lib.ListN.{length, getD}
 use borrow.Author.Tests.{le-leb, leb-true}
 use Rattle.shape.specs.declared.Shape.{Shape}
-use Rattle.shape.specs.Limits.{accepted, shaped}
+use Rattle.shape.specs.Limits.{Reply, accepted, shaped}
 use Rattle.model.specs.declared.Call.{Call}
 use Rattle.model.specs.declared.Call.the-variants.{Make, Clock, Delivery, Query}
 use Rattle.model.specs.Block.{Block, late, windowSum}
@@ -18,7 +18,7 @@ use Rattle.model.specs.Words.{shapeOf, clockOf}
 use Rattle.model.specs.Calls.{View, blockAt, firstOf, refusals, bookView, accept, perform, clocked, delivered}
 use Rattle.model.specs.Ledger.{Entry, Ledger, ledgerOf, volumeOf, ofGrade, ofWindow, ledgerView, note, enter}
 use Rattle.model.specs.Ground.{groundOf, groundValues, ground}
-use Rattle.model.specs.Claim.{Turn, runCalls, ByCall, Admits, Bound, Grounds, Span, Outside, Kept, Claim}
+use Rattle.model.specs.Claim.{Turn, runCalls, ByCall, Admits, Bound, Grounds, Quiet, Short, Span, Outside, Kept, Claim}
 use Rattle.laws.specs.Cond.{eq-or-ne}
 use Rattle.laws.specs.Refusals.{accepted-make, accepted-clock, accepted-delivery, accepted-query, late-delivery, settle-accepted, settle-refused, perform-number, enter-number}
 use Rattle.laws.specs.GroundLaws.{ground-given}
@@ -28,6 +28,7 @@ use Rattle.ledger.specs.State.{Good, wordsOf, words-shape, words-clock}
 use Rattle.ledger.specs.Agree.{agree}
 use Rattle.ledger.specs.Next.{made-words, made-good, block-is, clocked-words, clocked-good, delivered-words, delivered-good}
 use Rattle.ledger.specs.Window.{sum-admits, sum-limited}
+use Rattle.ledger.specs.Exact.{sum-exact, short-few}
 use Rattle.ledger.specs.Steps.{expand, run-expand, each-as-turns}
 
 -- what a call leads to: the ledger afterwards, whose words are then the book's; within a span k stays and the clock does not fall
@@ -38,6 +39,13 @@ pub record Next (l : Ledger) (call : Call) : Type 0 where
   pub exact : enter (length (wordsOf l)) l call .left ≡ later
   pub span : ByCall (perform (wordsOf l) call .reply .number ≡ 0 → ⊥) (Unit {0}) (λ _. Unit {0}) (λ _ _. Unit {0}) call
       → (later .shape .k ≡ l .shape .k) × (l .clock ≤ later .clock)
+
+-- what is said of a turn's answer
+record Answers (t : Turn) : Type 0 where
+  pub bound : Bound t
+  pub grounds : Grounds t
+  pub quiet : Quiet t
+  pub short : Short t
 
 module _ (l : Ledger) (good : Good l) where
   abbrev s : Shape
@@ -156,21 +164,29 @@ module _ (l : Ledger) (good : Good l) where
       → f (shapeOf ws) (clockOf ws) (blockAt ws grade) ≡ f s clock (blockFor s clock es (ofGrade grade))
   of-ledger f grade h = rw (words-clock l good) (ap₂ (λ (z : Shape). f z clock) (words-shape l good) (block-is l good grade h))
 
-  -- if a relation holds of the two sums, it holds of the replies to an answered question
-  query-relates : (grade window : ℕ) (R : ℕ → ℕ → Type 0) → turn (Query grade window) .book .number ≡ 0
-      → (grade < s .g → window ≤ 2 ^ s .k
-      → R (windowSum s clock window (blockFor s clock es (ofGrade grade))) (volumeOf (ofWindow clock (ofGrade grade) window) es))
-      → R (getD (turn (Query grade window) .book .values) 0 0) (getD (turn (Query grade window) .exact .values) 0 0)
+  -- the replies to an answered question are the two sums, so what holds of these holds of the replies
+  query-relates : (grade window : ℕ) (R : Reply → Reply → Type 0) → turn (Query grade window) .book .number ≡ 0
+      → (window ≤ 2 ^ s .k
+      → R (accepted (windowSum s clock window (blockFor s clock es (ofGrade grade)) ∷ [])) (accepted (volumeOf (ofWindow clock (ofGrade grade) window) es ∷ [])))
+      → R (turn (Query grade window) .book) (turn (Query grade window) .exact)
   unfolding ledgerView
   query-relates grade window R number held =
       let call : Call = Query grade window in
       let h : first call ≡ 0 = sym (perform-number ws call) ∙ number in
       let facts = accepted-query exactView grade window (exact-first call h) in
-      rw (book-accepted call h, exact-accepted call h, of-ledger (λ z c. windowSum z c window) grade (facts .inside)) (held (facts .inside) (facts .short))
+      rw (book-accepted call h, exact-accepted call h, of-ledger (λ z c. windowSum z c window) grade (facts .inside)) (held (facts .short))
 
   query-bound : (grade window : ℕ) → Bound (turn (Query grade window))
   query-bound grade window number room =
-      query-relates grade window (Admits (s .n) (s .k)) number (λ _. sum-admits l good (ofGrade grade) (good .few grade) room window)
+      query-relates grade window (λ book exact. Admits (s .n) (s .k) (getD (book .values) 0 0) (getD (exact .values) 0 0)) number
+      (sum-admits l good (ofGrade grade) (good .few grade) room window)
+
+  query-quiet : (grade window : ℕ) → Quiet (turn (Query grade window))
+  query-quiet grade window number few =
+      query-relates grade window _≡_ number (λ w. ap (λ (sum : ℕ). accepted (sum ∷ [])) (sum-exact l good (ofGrade grade) window w few))
+
+  query-short : (grade window : ℕ) → Short (turn (Query grade window))
+  query-short grade window number w = query-quiet grade window number (short-few l good (ofGrade grade) window w)
 
   query-grounds : (grade window : ℕ) → Grounds (turn (Query grade window))
   unfolding ledgerView groundOf
@@ -183,17 +199,16 @@ module _ (l : Ledger) (good : Good l) where
       rw same
       (refl, sum-limited l good (ofGrade grade) (good .few grade) window (facts .short))
 
-  turn-bound : (call : Call) → Bound (turn call)
-  turn-bound (Make k′ n′ m′ g′) = tt
-  turn-bound (Clock to) = tt
-  turn-bound (Delivery grade stamp volume) = tt
-  turn-bound (Query grade window) = query-bound grade window
-
-  turn-grounds : (call : Call) → Grounds (turn call)
-  turn-grounds (Make k′ n′ m′ g′) = tt
-  turn-grounds (Clock to) = tt
-  turn-grounds (Delivery grade stamp volume) = tt
-  turn-grounds (Query grade window) = query-grounds grade window
+  turn-answers : (call : Call) → Answers (turn call)
+  turn-answers (Make k′ n′ m′ g′) = record { bound = tt; grounds = tt; quiet = tt; short = tt }
+  turn-answers (Clock to) = record { bound = tt; grounds = tt; quiet = tt; short = tt }
+  turn-answers (Delivery grade stamp volume) = record { bound = tt; grounds = tt; quiet = tt; short = tt }
+  turn-answers (Query grade window) = record {
+    bound = query-bound grade window;
+    grounds = query-grounds grade window;
+    quiet = query-quiet grade window;
+    short = query-short grade window;
+  }
 
   turn-late : (grade stamp volume : ℕ) → turn (Delivery grade stamp volume) .book .number ≡ 9 → late s clock stamp ≡ true
   unfolding ledgerView
@@ -246,15 +261,18 @@ outside (call ∷ calls) l good stamp h =
 
 kept : (calls : List Call) (l : Ledger) → Good l → Kept (grown l calls)
 unfolding runCalls
-kept [] l good = record { same = tt; bound = tt; missed = tt; grounds = tt }
+kept [] l good = record { same = tt; bound = tt; missed = tt; grounds = tt; quiet = tt; short = tt }
 kept (call ∷ calls) l good =
     let c = next l good call in
     let rest = kept calls (c .later) (c .good) in
+    let here = turn-answers l good call in
     rw (c .book, c .exact) (record {
       same = (same-number l good call, rest .same);
-      bound = (turn-bound l good call, rest .bound);
+      bound = (here .bound, rest .bound);
       missed = (missed-step l good call c (grown (c .later) calls) (outside calls (c .later) (c .good)), rest .missed);
-      grounds = (turn-grounds l good call, rest .grounds);
+      grounds = (here .grounds, rest .grounds);
+      quiet = (here .quiet, rest .quiet);
+      short = (here .short, rest .short);
     })
 
 -- the claim, for every list of calls and replays from the words that an accepted make left on any words

@@ -6,6 +6,7 @@ pub mod State
 pub mod Agree
 pub mod Next
 pub mod Window
+pub mod Exact
 pub mod Steps
 pub mod Demand
 pub mod Excluded

@@ -25,7 +25,7 @@ use Rattle.ledger.specs.Book.{blockFor, halfOf-served}
 use Rattle.ledger.specs.State.{Good}
 
 -- two comparisons that hold in the same cases
-leb-same : (x y u v : ℕ) → (x ≤ y → u ≤ v) → (u ≤ v → x ≤ y) → leb x y ≡ leb u v
+pub leb-same : (x y u v : ℕ) → (x ≤ y → u ≤ v) → (u ≤ v → x ≤ y) → leb x y ≡ leb u v
 leb-same x y u v f g =
     ⊎-elim
     (λ (l : y < x). lt-leb x y l ∙ sym (lt-leb u v (⊎-elim (λ (p : v < u). p) (λ (q : u ≤ v). absurd (omega (arith, g q))) (lt-or-ge v u))))

@@ -1,83 +1,62 @@
 -- Which answers are the ledger's own: those to windows with at most n different stamps from the opening on, in the interval where the window
 -- opens, and so those to windows of at most n. Rests on level 0 holding such an opening.
-use mathlib.Core.Bool.{Bool, true, false, true≢false, _&&_, _||_}
-use mathlib.Core.Path.{_≡_, refl, ap, subst, _∙_, sym}
+use mathlib.Core.Bool.{Bool, true, false, true≢false, cond, _&&_, _||_}
+use mathlib.Core.Path.{_≡_, refl, sym, ap, _∙_}
 use mathlib.Core.Logic.{⊎-elim}
 use mathlib.Core.List.{List, [], _∷_}
-use Prim.Native.Nat.{ℕ, zero, suc, _+_, _-_, _*_, _^_, _≤_, _<_}
+use Prim.Native.Nat.{ℕ, suc, _+_, _-_, _*_, _^_, _≤_, _<_}
 use native.Mathlib.Omega.{arith}
 use lib.Dec.{leb, eqb}
-use borrow.Author.Tests.{le-leb, eq-eqb, ne-eqb}
+use borrow.Author.Tests.{le-leb, leb-true, eq-eqb, ne-eqb, eqb-true}
 use Rattle.shape.specs.declared.Shape.{Shape}
+use Rattle.shape.specs.LimitsLaws.{both}
 use Rattle.model.specs.Block.{interval, offsetOf, opening, windowSum}
 use Rattle.model.specs.Ledger.{Entry, Ledger, volumeOf, ofInterval, ofWindow}
-use Rattle.model.specs.Stamps.{bears, countFrom, differentStamps}
+use Rattle.model.specs.Stamps.{fromOpening, stampsOf, occurs, different, differentStamps}
 use Rattle.model.specs.Claim.{Each}
-use Rattle.laws.specs.Cond.{eq-or-ne, and-false}
+use Rattle.laws.specs.Cond.{eq-or-ne, and-true}
 use Rattle.theory.specs.Fed.{Event, fed, counted, fed-exact}
-use Rattle.theory.specs.Quiet.{count-until, quiet-holds}
-use Rattle.ledger.specs.Time.{tick-split}
+use Rattle.theory.specs.Count.{countFrom, count-most, count-shift, count-different}
+use Rattle.theory.specs.Quiet.{quiet-holds}
+use Rattle.ledger.specs.Time.{tick-split, offset-lt}
 use Rattle.ledger.specs.Grown.{events, events-inside, halfFed, volumeOf-cong, counted-events}
 use Rattle.ledger.specs.Book.{blockFor}
 use Rattle.ledger.specs.State.{Good}
 use Rattle.ledger.specs.Window.{leb-same, sum-relates}
 
--- a count of the same numbers, each from another start
-count-shift : (p : ℕ → Bool) (b i c : ℕ) → countFrom p (b + i) c ≡ countFrom (λ t. p (b + t)) i c
-count-shift p b i zero = refl
-count-shift p b i (suc c) =
-    let next : suc (b + i) ≡ b + suc i = omega arith in
-    rw next (rw (count-shift p b (suc i) c))
+-- ---- stamps and entries
 
--- where no entry bears the stamp at offset t of interval j, the events of that interval have no volume at t
-module _ (s : Shape) (p : Entry → Bool) (j t : ℕ) where
-  abbrev stamp : ℕ
-  stamp = j * 2 ^ s .k + t
-
-  abbrev Same : Entry → Type 0
-  Same e = (ofInterval s p j e && leb t (offsetOf s (e .stamp))) ≡ (ofInterval s p j e && leb (suc t) (offsetOf s (e .stamp)))
-
-  entry-same : (e : Entry) → (p e && eqb (e .stamp) stamp) ≡ false → Same e
-  entry-same e h =
-      let i : ℕ = interval s (e .stamp) in
-      let x : ℕ = offsetOf s (e .stamp) in
-      ⊎-elim
-      (λ (at-t : x ≡ t).
-      ⊎-elim
-      (λ (here : i ≡ j).
-      let same : e .stamp ≡ stamp = omega (arith, tick-split s (e .stamp), ap (λ (z : ℕ). z * 2 ^ s .k) here) in
-      gone (rw (eq-eqb i j here) (rw (eq-eqb (e .stamp) stamp same) at h)))
-      (λ (there : i ≡ j → ⊥). gone (and-false (p e) (ne-eqb i j there)))
-      (eq-or-ne i j))
-      (λ (other : x ≡ t → ⊥). rw (leb-same t x (suc t) x (λ low. omega (arith, low, other)) (λ low. omega arith)))
-      (eq-or-ne x t)
+-- the entries that satisfy a test
+module _ (p : Entry → Bool) where
+  -- what holds of each of their stamps
+  stamps-each : (Q : Entry → Type 0) (P : ℕ → Type 0) → ((e : Entry) → Q e → p e ≡ true → P (e .stamp)) → (es : List Entry) → Each Q es → Each P (stampsOf p es)
+  stamps-each Q P f [] h = tt
+  stamps-each Q P f (e ∷ es) h = go (p e) refl (stamps-each Q P f es (h .1))
     where
-      gone : ofInterval s p j e ≡ false → Same e
-      gone none = rw none
+      go : (here : Bool) → p e ≡ here → Each P (stampsOf p es) → Each P (cond here (e .stamp ∷ stampsOf p es) (stampsOf p es))
+      go true is rest = (f e (h .0) is, rest)
+      go false is rest = rest
 
-  entries-same : (es : List Entry) → bears p es stamp ≡ false → Each Same es
-  entries-same [] h = tt
-  entries-same (e ∷ es) h = go (p e && eqb (e .stamp) stamp) refl (entries-same es) h
+  -- a stamp that does not occur is borne by none of them
+  abbrev Unborne : ℕ → Entry → Type 0
+  Unborne stamp e = p e ≡ true → stamp ≡ e .stamp → ⊥
+
+  stamps-none : (stamp : ℕ) (es : List Entry) → occurs stamp (stampsOf p es) ≡ false → Each (Unborne stamp) es
+  stamps-none stamp [] h = tt
+  stamps-none stamp (e ∷ es) h = go (p e) refl (stamps-none stamp es) h
     where
-      go : (here : Bool) → (p e && eqb (e .stamp) stamp) ≡ here → (bears p es stamp ≡ false → Each Same es) → (here || bears p es stamp) ≡ false
-          → Each Same (e ∷ es)
-      go true is rest none = absurd (true≢false none)
-      go false is rest none = (entry-same e is, rest none)
+      go : (here : Bool) → p e ≡ here → (occurs stamp (stampsOf p es) ≡ false → Each (Unborne stamp) es)
+          → occurs stamp (cond here (e .stamp ∷ stampsOf p es) (stampsOf p es)) ≡ false → Each (Unborne stamp) (e ∷ es)
+      go false is rest none = (λ yes. absurd (true≢false (sym yes ∙ is)), rest none)
+      go true is rest none =
+          ⊎-elim
+          (λ (same : stamp ≡ e .stamp). absurd (true≢false (rw (eq-eqb stamp (e .stamp) same) at none)))
+          (λ (other : stamp ≡ e .stamp → ⊥). (λ _. other, rest (rw (ne-eqb stamp (e .stamp) other) at none)))
+          (eq-or-ne stamp (e .stamp))
 
-  no-volume : (es : List Entry) → bears p es stamp ≡ false → counted (events s (ofInterval s p j) es) t ≡ counted (events s (ofInterval s p j) es) (suc t)
-  no-volume es h =
-      let q : Entry → Bool = ofInterval s p j in
-      counted-events s q t es
-      ∙ volumeOf-cong s (λ e. q e && leb t (offsetOf s (e .stamp))) (λ e. q e && leb (suc t) (offsetOf s (e .stamp))) es (entries-same es h)
-      ∙ sym (counted-events s q (suc t) es)
+-- ---- the answers
 
--- a stamp past all entries is not borne
-not-later : (clock : ℕ) (p : Entry → Bool) (t : ℕ) → clock < t → (es : List Entry) → Each (λ e. e .stamp ≤ clock) es → bears p es t ≡ false
-not-later clock p t later [] past = refl
-not-later clock p t later (e ∷ es) past =
-    rw (and-false (p e) (ne-eqb (e .stamp) t (λ same. omega (arith, past .0)))) (not-later clock p t later es (past .1))
-
-module _ (l : Ledger) (good : Good l) (p : Entry → Bool) where
+module _ (l : Ledger) (good : Good l) (p : Entry → Bool) (window : ℕ) where
   abbrev s : Shape
   s = l .shape
 
@@ -87,27 +66,94 @@ module _ (l : Ledger) (good : Good l) (p : Entry → Bool) where
   abbrev es : List Entry
   es = l .entries
 
+  abbrev start : ℕ
+  start = opening clock window
+
+  abbrev j : ℕ
+  j = interval s start
+
+  abbrev a : ℕ
+  a = offsetOf s start
+
+  abbrev inInterval : Entry → Bool
+  inInterval = ofInterval s p j
+
+  abbrev counts : Entry → Bool
+  counts = fromOpening l p window
+
+  abbrev stamps : List ℕ
+  stamps = stampsOf counts es
+
+  stamp-low : (e : Entry) → counts e ≡ true → start ≤ e .stamp
+  stamp-low e h = leb-true start (e .stamp) (both {a = inInterval e} {b = leb start (e .stamp)} h .1)
+
+  in-interval : (e : Entry) → inInterval e ≡ true → interval s (e .stamp) ≡ j
+  in-interval e h = eqb-true (interval s (e .stamp)) j (both {a = p e} {b = eqb (interval s (e .stamp)) j} h .1)
+
+  -- the different stamps can be counted from the opening on
+  along : (c : ℕ) → ((e : Entry) → e .stamp ≤ clock → counts e ≡ true → e .stamp < start + c)
+      → countFrom (λ t. occurs t stamps) start c ≡ differentStamps l p window
+  along c high =
+      count-different start c stamps
+      (stamps-each counts (λ e. e .stamp ≤ clock) (λ x. (start ≤ x) × (x < start + c)) (λ e past h. (stamp-low e h, high e past h)) es (good .past))
+
+  -- up to the end of the interval
+  interval-end : (e : Entry) → counts e ≡ true → e .stamp < start + (2 ^ s .k - a)
+  interval-end e h =
+      let here : interval s (e .stamp) ≡ j = in-interval e (both {a = inInterval e} {b = leb start (e .stamp)} h .0) in
+      omega (arith, ap (λ (z : ℕ). z * 2 ^ s .k) here, tick-split s start, tick-split s (e .stamp), offset-lt s start, offset-lt s (e .stamp))
+
+  -- where a stamp from the opening on does not occur, no volume was delivered
+  module _ (t : ℕ) (low : a ≤ t) where
+    abbrev stamp : ℕ
+    stamp = j * 2 ^ s .k + t
+
+    abbrev Same : Entry → Type 0
+    Same e = (inInterval e && leb t (offsetOf s (e .stamp))) ≡ (inInterval e && leb (suc t) (offsetOf s (e .stamp)))
+
+    entry-same : (e : Entry) → Unborne counts stamp e → Same e
+    entry-same e unborne = go (inInterval e) refl
+      where
+        x : ℕ
+        x = offsetOf s (e .stamp)
+
+        other : inInterval e ≡ true → x ≡ t → ⊥
+        other is same =
+            let at : stamp ≡ e .stamp = omega (arith, ap (λ (z : ℕ). z * 2 ^ s .k) (in-interval e is), tick-split s (e .stamp)) in
+            unborne (and-true is (le-leb start (e .stamp) (omega (arith, low, at, tick-split s start)))) at
+
+        go : (here : Bool) → inInterval e ≡ here → (here && leb t x) ≡ (here && leb (suc t) x)
+        go false is = refl
+        go true is = leb-same t x (suc t) x (λ h. omega (arith, h, other is)) (λ h. omega arith)
+
+    entries-same : (fs : List Entry) → Each (Unborne counts stamp) fs → Each Same fs
+    entries-same [] h = tt
+    entries-same (e ∷ fs) h = (entry-same e (h .0), entries-same fs (h .1))
+
+    no-volume : occurs stamp stamps ≡ false → counted (events s inInterval es) t ≡ counted (events s inInterval es) (suc t)
+    no-volume none =
+        counted-events s inInterval t es
+        ∙ volumeOf-cong s (λ e. inInterval e && leb t (offsetOf s (e .stamp))) (λ e. inInterval e && leb (suc t) (offsetOf s (e .stamp))) es
+        (entries-same es (stamps-none counts stamp es none))
+        ∙ sym (counted-events s inInterval (suc t) es)
+
   -- at most n different stamps
-  pub sum-exact : (window : ℕ) → window ≤ 2 ^ s .k → differentStamps l p window ≤ s .n
+  pub sum-exact : window ≤ 2 ^ s .k → differentStamps l p window ≤ s .n
       → windowSum s clock window (blockFor s clock es p) ≡ volumeOf (ofWindow clock p window) es
   unfolding halfFed
-  sum-exact window w few =
-      let start : ℕ = opening clock window in
-      let j : ℕ = interval s start in
-      let a : ℕ = offsetOf s start in
-      let q : Entry → Bool = ofInterval s p j in
-      let vs : List Event = events s q es in
-      let inside = events-inside s q es in
+  sum-exact w few =
+      let vs : List Event = events s inInterval es in
+      let inside = events-inside s inInterval es in
       let two = good .limits .low-n in
-      let counts : countFrom (λ t. bears p es (j * 2 ^ s .k + t)) a (2 ^ s .k - a) ≤ s .n =
-      rw (← count-shift (bears p es) (j * 2 ^ s .k) a (2 ^ s .k - a), tick-split s start) few in
-      let held : fed (s .k) (s .n) 0 vs .first ≤ a =
-      quiet-holds (s .k) (s .n) two vs inside (λ t. bears p es (j * 2 ^ s .k + t)) (λ t _. no-volume s p j t es) a counts in
-      sum-relates l good _≡_ (λ x y more same. rw same) refl p window w
-      (λ _. rw (le-leb (fed (s .k) (s .n) 0 vs .first) a held, ← counted-events s q a es) (fed-exact (s .k) (s .n) two vs inside a held))
+      let borne : ℕ → Bool = λ t. occurs (j * 2 ^ s .k + t) stamps in
+      let same : countFrom borne a (2 ^ s .k - a) ≡ differentStamps l p window =
+      sym (count-shift (λ t. occurs t stamps) (j * 2 ^ s .k) a (2 ^ s .k - a))
+      ∙ ap (λ (z : ℕ). countFrom (λ t. occurs t stamps) z (2 ^ s .k - a)) (tick-split s start)
+      ∙ along (2 ^ s .k - a) (λ e _. interval-end e) in
+      let held : fed (s .k) (s .n) 0 vs .first ≤ a = quiet-holds (s .k) (s .n) two vs inside a borne no-volume (omega (arith, same, few)) in
+      sum-relates l good _≡_ (λ x y more e. rw e) refl p window w
+      (λ _. rw (le-leb (fed (s .k) (s .n) 0 vs .first) a held, ← counted-events s inInterval a es) (fed-exact (s .k) (s .n) two vs inside a held))
 
-  -- no entry is past the clock, so a window of at most n has at most n different stamps
-  pub short-few : (window : ℕ) → window ≤ s .n → differentStamps l p window ≤ s .n
-  short-few window h =
-      let start : ℕ = opening clock window in
-      omega (arith, count-until (bears p es) window start (2 ^ s .k - offsetOf s start) (λ t low. not-later clock p t (omega arith) es (good .past)))
+  -- a window of at most n has no more stamps than ticks, since none is past the clock
+  pub short-few : window ≤ s .n → differentStamps l p window ≤ s .n
+  short-few h = omega (arith, count-most (λ t. occurs t stamps) start window, along window (λ e past counted. omega arith))

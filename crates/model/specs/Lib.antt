@@ -19,3 +19,4 @@ pub mod SplitsTable
 pub mod TraceTable
 pub mod MergeTable
 pub mod GroundTable
+pub mod StampsTable

@@ -1,21 +1,27 @@
--- SPECIFICATION 9.8, the different stamps of a window's opening interval. Assumes nothing.
+-- SPECIFICATION 9.8, how many different stamps count for a window. Assumes nothing.
 use mathlib.Core.Bool.{Bool, false, cond, _&&_, _||_}
 use mathlib.Core.List.{List, [], _∷_}
-use Prim.Native.Nat.{ℕ, zero, suc, _+_, _-_, _^_}
-use lib.Dec.{eqb}
-use Rattle.model.specs.Block.{offsetOf, opening}
-use Rattle.model.specs.Ledger.{Entry, Ledger}
+use Prim.Native.Nat.{ℕ, _+_}
+use lib.Dec.{leb, eqb}
+use Rattle.model.specs.Block.{interval, opening}
+use Rattle.model.specs.Ledger.{Entry, Ledger, ofInterval}
 
-abbrev pub bears : (Entry → Bool) → List Entry → ℕ → Bool  -- an entry that satisfies a test bears this stamp
-bears p [] stamp = false
-bears p (e ∷ es) stamp = (p e && eqb (e .stamp) stamp) || bears p es stamp
-
-abbrev pub countFrom : (ℕ → Bool) → ℕ → ℕ → ℕ  -- of how many of the c numbers i, i + 1, .. p holds
-countFrom p i zero = 0
-countFrom p i (suc c) = cond (p i) 1 0 + countFrom p (suc i) c
-
-abbrev pub differentStamps : Ledger → (Entry → Bool) → ℕ → ℕ  -- SPECIFICATION 9.8: how many stamps, from a window's opening to the end of the interval where it opens, the entries that satisfy a test bear
-differentStamps l p window =
+abbrev pub fromOpening : Ledger → (Entry → Bool) → ℕ → Entry → Bool  -- SPECIFICATION 9.8: an entry that satisfies a test, in the interval where a window opens, from its opening on
+fromOpening l p window e =
     let start = opening (l .clock) window in
-    let ticks = 2 ^ l .shape .k - offsetOf (l .shape) start in
-    countFrom (bears p (l .entries)) start ticks
+    ofInterval (l .shape) p (interval (l .shape) start) e && leb start (e .stamp)
+
+abbrev pub stampsOf : (Entry → Bool) → List Entry → List ℕ  -- the stamps of the entries that satisfy a test
+stampsOf p [] = []
+stampsOf p (e ∷ es) = cond (p e) (e .stamp ∷ stampsOf p es) (stampsOf p es)
+
+abbrev pub occurs : ℕ → List ℕ → Bool  -- x is one of these numbers
+occurs x [] = false
+occurs x (y ∷ ys) = eqb x y || occurs x ys
+
+abbrev pub different : List ℕ → ℕ  -- how many different numbers these are: each counts only where it occurs for the last time
+different [] = 0
+different (x ∷ xs) = cond (occurs x xs) 0 1 + different xs
+
+abbrev pub differentStamps : Ledger → (Entry → Bool) → ℕ → ℕ  -- SPECIFICATION 9.8: how many different stamps those entries bear
+differentStamps l p window = different (stampsOf (fromOpening l p window) (l .entries))

@@ -55,9 +55,10 @@ Holds ws l (servedFrom window i) =
     let a = offsetOf s start in
     (past a (take i levels) ≡ true) × (serving a levels ≡ getD levels i (levelOf 0 []))
 
-abbrev pub entered : Ledger → List Call → Ledger
-entered l [] = l
-entered l (call ∷ calls) = entered (enter exampleWords l call .left) calls
+-- a ledger after calls that are each lent so many words
+abbrev pub entered : ℕ → Ledger → List Call → Ledger
+entered lent l [] = l
+entered lent l (call ∷ calls) = entered lent (enter lent l call .left) calls
 
 -- calls on as many words as the shape needs, all zero at first; and what holds after them
 pub record Example : Type 0 where
@@ -68,7 +69,7 @@ pub record Example : Type 0 where
 abbrev pub Meets : Example → Type 0
 Meets e =
     let calls = e .start ++ e .calls in
-    Each (Holds (leftBy (replicate exampleWords 0) calls) (entered (ledgerOf exampleShape 0 []) calls)) (e .facts)
+    Each (Holds (leftBy (replicate exampleWords 0) calls) (entered exampleWords (ledgerOf exampleShape 0 []) calls)) (e .facts)
 
 -- a book of that shape, with the clock at 3
 abbrev pub start : List Call

@@ -3,4 +3,5 @@ pub mod Fed
 pub mod Relative
 pub mod Limited
 pub mod Highest
+pub mod Count
 pub mod Quiet

@@ -5,76 +5,52 @@ use mathlib.Core.Logic.{⊎-elim}
 use mathlib.Core.Path.{_≡_, refl, subst}
 use mathlib.Core.List.{List, [], _∷_}
 use Prim.Native.Nat.{ℕ, zero, suc, _+_, _-_, _^_, _≤_, _<_}
-use native.Mathlib.Nat.{le-refl, zero-add}
+use native.Mathlib.Nat.{le-refl}
 use native.Mathlib.Omega.{arith}
 use lib.ListN.{length}
 use Rattle.model.specs.Level.{Bucket, Level}
 use Rattle.model.specs.Block.{sumFrom}
-use Rattle.model.specs.Stamps.{countFrom}
 use Rattle.laws.specs.Cond.{lt-or-ge, eq-or-ne}
 use Rattle.laws.specs.Put.{Rising, sumFrom-past}
 use Rattle.theory.specs.Fed.{Event, fed, counted, Inside, fed-tracks}
 use Rattle.theory.specs.Highest.{head-counts, raised-to, fed-highest}
+use Rattle.theory.specs.Count.{countFrom, count-later}
 
--- ---- counting
+-- if p holds wherever rising buckets have weight, each of them is counted
+rising-count : (p : ℕ → Bool) (k c i : ℕ) (bs : List Bucket) → Rising k i bs → 2 ^ k ≤ i + c
+    → ((t : ℕ) → i ≤ t → sumFrom (suc t) bs < sumFrom t bs → p t ≡ true) → length bs ≤ countFrom p i c
+rising-count p k c i [] r end shows = omega arith
+rising-count p k zero i (b ∷ bs) r end shows = absurd (omega (arith, r .0 .low, r .0 .high))
+rising-count p k (suc c) i (b ∷ bs) r end shows =
+    ⊎-elim
+    (λ (here : b .offset ≡ i).
+    let less : sumFrom (suc i) (b ∷ bs) < sumFrom i (b ∷ bs) = subst (λ (z : ℕ). sumFrom (suc z) (b ∷ bs) < sumFrom z (b ∷ bs)) here (head-counts b bs (r .0 .some)) in
+    let rest : length bs ≤ countFrom p (suc i) c =
+    rising-count p k c (suc i) bs (subst (λ (z : ℕ). Rising k z bs) (omega arith) (r .1)) (omega arith)
+    (λ t low drop. shows t (omega arith) (omega (arith, drop, sumFrom-past b bs t (omega arith), sumFrom-past b bs (suc t) (omega arith)))) in
+    rw (shows i (le-refl i) less) (omega (arith, rest)))
+    (λ (other : b .offset ≡ i → ⊥).
+    let above : suc i ≤ b .offset = omega (arith, r .0 .low, other) in
+    more (p i) (rising-count p k c (suc i) (b ∷ bs) (raised-to k i (suc i) b bs above r) (omega arith) (λ t low. shows t (omega arith))))
+    (eq-or-ne (b .offset) i)
+  where
+    more : (here : Bool) → suc (length bs) ≤ countFrom p (suc i) c → suc (length bs) ≤ cond here 1 0 + countFrom p (suc i) c
+    more true h = omega arith
+    more false h = omega arith
 
-module _ (p : ℕ → Bool) where
-  -- from a later number on, up to the same end, the count is no greater
-  count-later : (d i c : ℕ) → countFrom p (d + i) c ≤ countFrom p i (d + c)
-  count-later zero i c = rw (zero-add i, zero-add c) (le-refl _)
-  count-later (suc d) i c =
-      let moved : d + suc i ≡ suc d + i = omega arith in
-      let longer : suc (d + c) ≡ suc d + c = omega arith in
-      rw (← moved, ← longer) (omega (arith, count-later d (suc i) c))
-
-  -- if p holds of no number from i + d on, the count is at most d
-  pub count-until : (d i c : ℕ) → ((t : ℕ) → i + d ≤ t → p t ≡ false) → countFrom p i c ≤ d
-  count-until d i zero none = omega arith
-  count-until zero i (suc c) none = rw (none i (omega arith)) (omega (arith, count-until zero (suc i) c (λ t h. none t (omega arith))))
-  count-until (suc d) i (suc c) none = go (p i) (count-until d (suc i) c (λ t h. none t (omega arith)))
-    where
-      go : (here : Bool) → countFrom p (suc i) c ≤ d → cond here 1 0 + countFrom p (suc i) c ≤ suc d
-      go true h = omega arith
-      go false h = omega arith
-
-  -- if p holds wherever rising buckets have weight, each of them is counted
-  rising-count : (k c i : ℕ) (bs : List Bucket) → Rising k i bs → 2 ^ k ≤ i + c
-      → ((t : ℕ) → i ≤ t → t < 2 ^ k → sumFrom (suc t) bs < sumFrom t bs → p t ≡ true) → length bs ≤ countFrom p i c
-  rising-count k c i [] r end shows = omega arith
-  rising-count k zero i (b ∷ bs) r end shows = absurd (omega (arith, r .0 .low, r .0 .high))
-  rising-count k (suc c) i (b ∷ bs) r end shows =
-      ⊎-elim
-      (λ (here : b .offset ≡ i).
-      let high : i < 2 ^ k = omega (arith, r .0 .high) in
-      let less : sumFrom (suc i) (b ∷ bs) < sumFrom i (b ∷ bs) = subst (λ (z : ℕ). sumFrom (suc z) (b ∷ bs) < sumFrom z (b ∷ bs)) here (head-counts b bs (r .0 .some)) in
-      let rest : length bs ≤ countFrom p (suc i) c =
-      rising-count k c (suc i) bs (subst (λ (z : ℕ). Rising k z bs) (omega arith) (r .1)) (omega arith)
-      (λ t low below drop. shows t (omega arith) below (omega (arith, drop, sumFrom-past b bs t (omega arith), sumFrom-past b bs (suc t) (omega arith)))) in
-      rw (shows i (le-refl i) high less) (omega (arith, rest)))
-      (λ (other : b .offset ≡ i → ⊥).
-      let above : suc i ≤ b .offset = omega (arith, r .0 .low, other) in
-      more (p i) (rising-count k c (suc i) (b ∷ bs) (raised-to k i (suc i) b bs above r) (omega arith) (λ t low. shows t (omega arith))))
-      (eq-or-ne (b .offset) i)
-    where
-      more : (here : Bool) → suc (length bs) ≤ countFrom p (suc i) c → suc (length bs) ≤ cond here 1 0 + countFrom p (suc i) c
-      more true h = omega arith
-      more false h = omega arith
-
--- ---- level 0
-
--- p holds of every offset at which volume was delivered
-module _ (k n : ℕ) (two : 2 ≤ n) (es : List Event) (inside : Inside k es) (p : ℕ → Bool)
-    (borne : (t : ℕ) → t < 2 ^ k → p t ≡ false → counted es t ≡ counted es (suc t)) where
-  shown : (t : ℕ) → t < 2 ^ k → counted es (suc t) < counted es t → p t ≡ true
-  shown t high drop = go (p t) refl
+-- p holds of every offset from a on at which volume was delivered
+module _ (k n : ℕ) (two : 2 ≤ n) (es : List Event) (inside : Inside k es) (a : ℕ) (p : ℕ → Bool)
+    (borne : (t : ℕ) → a ≤ t → p t ≡ false → counted es t ≡ counted es (suc t)) where
+  shown : (t : ℕ) → a ≤ t → counted es (suc t) < counted es t → p t ≡ true
+  shown t low drop = go (p t) refl
     where
       go : (b : Bool) → p t ≡ b → b ≡ true
       go true e = refl
-      go false e = absurd (omega (arith, drop, borne t high e))
+      go false e = absurd (omega (arith, drop, borne t low e))
 
-  -- if it evicted a bucket at or above a, its n buckets lie above that one, which makes n + 1 offsets
-  pub quiet-holds : (a : ℕ) → countFrom p a (2 ^ k - a) ≤ n → fed k n 0 es .first ≤ a
-  quiet-holds a few = go (fed k n 0 es .first) refl
+  -- if level 0 evicted a bucket at a or above it, its n buckets lie above that one, which makes n + 1 offsets
+  pub quiet-holds : countFrom p a (2 ^ k - a) ≤ n → fed k n 0 es .first ≤ a
+  quiet-holds few = go (fed k n 0 es .first) refl
     where
       go : (f : ℕ) → fed k n 0 es .first ≡ f → f ≤ a
       go zero e = omega arith
@@ -88,11 +64,11 @@ module _ (k n : ℕ) (two : 2 ≤ n) (es : List Event) (inside : Inside k es) (p
           let kept : n ≤ countFrom p (suc f) rest =
           subst (λ (z : ℕ). z ≤ countFrom p (suc f) rest) (top .full (omega arith))
           (rising-count p k rest (suc f) (level .buckets) (subst (λ (z : ℕ). Rising k z (level .buckets)) e (top .rising)) (omega arith)
-          (λ t low below drop. shown t below (omega (arith, drop, top .exact t (omega arith), top .exact (suc t) (omega arith))))) in
-          let evicted : p f ≡ true = shown f high (top .edge f e) in
-          let all : countFrom p f (suc rest) ≡ suc (countFrom p (suc f) rest) = rw evicted (omega arith) in
+          (λ t low drop. shown t (omega arith) (omega (arith, drop, top .exact t (omega arith), top .exact (suc t) (omega arith))))) in
+          let evicted : p f ≡ true = shown f (omega arith) (top .edge f e) in
+          let both : countFrom p f (suc rest) ≡ suc (countFrom p (suc f) rest) = rw evicted (omega arith) in
           let start : f - a + a ≡ f = omega arith in
           let ticks : f - a + suc rest ≡ 2 ^ k - a = omega arith in
-          absurd (omega (arith, kept, all, few, rw (start, ticks) at (count-later p (f - a) a (suc rest)))))
+          absurd (omega (arith, kept, both, few, rw (start, ticks) at (count-later p (f - a) a (suc rest)))))
           (λ (least : suc f ≤ a). least)
           (lt-or-ge a (suc f))

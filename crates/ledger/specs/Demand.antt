@@ -40,8 +40,8 @@ pub record Next (l : Ledger) (call : Call) : Type 0 where
   pub span : ByCall (perform (wordsOf l) call .reply .number ≡ 0 → ⊥) (Unit {0}) (λ _. Unit {0}) (λ _ _. Unit {0}) call
       → (later .shape .k ≡ l .shape .k) × (l .clock ≤ later .clock)
 
--- what is said of a turn's answer
-record Answers (t : Turn) : Type 0 where
+-- what `Kept` says of a single turn
+record TurnKept (t : Turn) : Type 0 where
   pub bound : Bound t
   pub grounds : Grounds t
   pub quiet : Quiet t
@@ -199,11 +199,11 @@ module _ (l : Ledger) (good : Good l) where
       rw same
       (refl, sum-limited l good (ofGrade grade) (good .few grade) window (facts .short))
 
-  turn-answers : (call : Call) → Answers (turn call)
-  turn-answers (Make k′ n′ m′ g′) = record { bound = tt; grounds = tt; quiet = tt; short = tt }
-  turn-answers (Clock to) = record { bound = tt; grounds = tt; quiet = tt; short = tt }
-  turn-answers (Delivery grade stamp volume) = record { bound = tt; grounds = tt; quiet = tt; short = tt }
-  turn-answers (Query grade window) = record {
+  turn-kept : (call : Call) → TurnKept (turn call)
+  turn-kept (Make k′ n′ m′ g′) = record { bound = tt; grounds = tt; quiet = tt; short = tt }
+  turn-kept (Clock to) = record { bound = tt; grounds = tt; quiet = tt; short = tt }
+  turn-kept (Delivery grade stamp volume) = record { bound = tt; grounds = tt; quiet = tt; short = tt }
+  turn-kept (Query grade window) = record {
     bound = query-bound grade window;
     grounds = query-grounds grade window;
     quiet = query-quiet grade window;
@@ -265,7 +265,7 @@ kept [] l good = record { same = tt; bound = tt; missed = tt; grounds = tt; quie
 kept (call ∷ calls) l good =
     let c = next l good call in
     let rest = kept calls (c .later) (c .good) in
-    let here = turn-answers l good call in
+    let here = turn-kept l good call in
     rw (c .book, c .exact) (record {
       same = (same-number l good call, rest .same);
       bound = (here .bound, rest .bound);

@@ -1,6 +1,6 @@
 -- Which answers are the ledger's own: those to windows with at most n different stamps from the opening on, in the interval where the window
 -- opens, and so those to windows of at most n. Rests on level 0 holding such an opening.
-use mathlib.Core.Bool.{Bool, true, false, true≢false, cond, _&&_, _||_}
+use mathlib.Core.Bool.{Bool, true, false, true≢false, cond, _&&_}
 use mathlib.Core.Path.{_≡_, refl, sym, ap, _∙_}
 use mathlib.Core.Logic.{⊎-elim}
 use mathlib.Core.List.{List, [], _∷_}

@@ -1,6 +1,6 @@
 -- If few different offsets from a on bear volume, level 0 still holds a, so that its sum from there on is exact. Rests on level 0 keeping the n
 -- highest offsets. Assumes nothing.
-use mathlib.Core.Bool.{Bool, true, false, cond}
+use mathlib.Core.Bool.{Bool, true, false}
 use mathlib.Core.Logic.{⊎-elim}
 use mathlib.Core.Path.{_≡_, refl, subst}
 use mathlib.Core.List.{List, [], _∷_}
@@ -31,12 +31,8 @@ rising-count p k (suc c) i (b ∷ bs) r end shows =
     rw (shows i (le-refl i) less) (omega (arith, rest)))
     (λ (other : b .offset ≡ i → ⊥).
     let above : suc i ≤ b .offset = omega (arith, r .0 .low, other) in
-    more (p i) (rising-count p k c (suc i) (b ∷ bs) (raised-to k i (suc i) b bs above r) (omega arith) (λ t low. shows t (omega arith))))
+    omega (arith, rising-count p k c (suc i) (b ∷ bs) (raised-to k i (suc i) b bs above r) (omega arith) (λ t low. shows t (omega arith))))
     (eq-or-ne (b .offset) i)
-  where
-    more : (here : Bool) → suc (length bs) ≤ countFrom p (suc i) c → suc (length bs) ≤ cond here 1 0 + countFrom p (suc i) c
-    more true h = omega arith
-    more false h = omega arith
 
 -- p holds of every offset from a on at which volume was delivered
 module _ (k n : ℕ) (two : 2 ≤ n) (es : List Event) (inside : Inside k es) (a : ℕ) (p : ℕ → Bool)
@@ -70,5 +66,5 @@ module _ (k n : ℕ) (two : 2 ≤ n) (es : List Event) (inside : Inside k es) (a
           let start : f - a + a ≡ f = omega arith in
           let ticks : f - a + suc rest ≡ 2 ^ k - a = omega arith in
           absurd (omega (arith, kept, both, few, rw (start, ticks) at (count-later p (f - a) a (suc rest)))))
-          (λ (least : suc f ≤ a). least)
+          (λ (holds : suc f ≤ a). holds)
           (lt-or-ge a (suc f))

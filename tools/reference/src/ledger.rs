@@ -2,6 +2,8 @@
 //! each one borrows, never a word of a book, so that refusals 7 and 11 are unknown to it. It has no
 //! buckets, so it answers a delivery without a count of splits.
 
+use std::collections::BTreeSet;
+
 use crate::calls::{Answer, Call, Reply};
 use crate::ground::Ground;
 use crate::refusal::{self, when};
@@ -133,6 +135,43 @@ impl Ledger {
     pub fn admits_ground(&self, grade: u32, window: u32, ground: Ground) -> bool {
         let exact = self.window_sum(grade, window);
         ground.sum.abs_diff(exact) <= ground.limit
+    }
+
+    /// How many different stamps a grade's deliveries bear from the opening of a window on, in the interval
+    /// in which it opens (document 02, request Seven). Window 0 opens nowhere.
+    pub fn opened_stamps(&self, grade: u32, window: u32) -> usize {
+        let Some(opening) = opening(self.clock, window) else {
+            return 0;
+        };
+        let interval = self.shape.interval(opening);
+        let is_counted = |e: &&Entry| {
+            let stamp = u64::from(e.stamp);
+            e.grade == grade && stamp >= opening && self.shape.interval(stamp) == interval
+        };
+        let counted = self.entries.iter().filter(is_counted);
+        counted.map(|e| e.stamp).collect::<BTreeSet<u32>>().len()
+    }
+
+    /// Whether these are at most n, so that document 02, request Seven, promises the exact sum.
+    pub fn is_quiet(&self, grade: u32, window: u32) -> bool {
+        self.opened_stamps(grade, window) <= self.shape.n() as usize
+    }
+
+    /// Whether a window has at most n ticks, so that document 02, request Seven, promises the exact sum
+    /// whatever was delivered.
+    pub fn is_short(&self, window: u32) -> bool {
+        window <= self.shape.n()
+    }
+
+    /// Whether document 02, request Seven, promises the exact sum of a grade and a window.
+    pub fn promises_exact(&self, grade: u32, window: u32) -> bool {
+        self.is_quiet(grade, window) || self.is_short(window)
+    }
+
+    /// Whether a book may answer a question of a grade and a window with this sum: only with the exact one
+    /// where that is promised.
+    pub fn admits_sum(&self, grade: u32, window: u32, answer: u64) -> bool {
+        !self.promises_exact(grade, window) || answer == self.window_sum(grade, window)
     }
 
     fn sum(&self, counted: impl Fn(&Entry) -> bool) -> u64 {

@@ -1,6 +1,6 @@
-//! Random runs of the book against the ledger: the same refusals, answers within the bound, grounds
-//! within their limits, late deliveries never missed, levels near the truth, and every grown block
-//! sound.
+//! Random runs of the book against the ledger: the same refusals, answers within the bound and exact
+//! where that is promised, grounds within their limits, late deliveries never missed, levels near the
+//! truth, and every grown block sound.
 
 use draw::calls::{call_of, Source};
 use draw::pace::Pace;
@@ -123,6 +123,8 @@ impl Run {
             assert_eq!(book, 0);
         }
         assert!(self.ledger.admits(exact, book), "{exact}: {book}");
+        let admitted = self.ledger.admits_sum(grade, window, book);
+        assert!(admitted, "{exact}: {book}, window {window}");
         self.check_ground(grade, window, book);
         if shape.n() > shape.k() + 1 {
             self.seen.bounded += 1;

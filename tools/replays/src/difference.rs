@@ -57,6 +57,20 @@ pub enum Difference {
         /// The ground; nothing where none was asked for.
         found: Option<Result<Ground, u32>>,
     },
+    /// A question of a list whose sum is not the ledger's, although its window has at most n ticks, or at most
+    /// n stamps are counted for it.
+    Inexact {
+        /// The question.
+        call: Call,
+        /// The ledger's answer.
+        expected: Reply,
+        /// The book's answer.
+        found: Reply,
+        /// The different stamps from the opening on.
+        stamps: usize,
+        /// n of the book.
+        n: u32,
+    },
 }
 
 /// What differs of a day that was found or replayed.
@@ -146,6 +160,17 @@ impl Display for Difference {
                 });
                 let expected = answer(*expected);
                 write!(f, "call {call:?}: {found}, the ledger: {expected}")
+            }
+            Difference::Inexact {
+                call,
+                expected,
+                found,
+                stamps,
+                n,
+            } => {
+                let [found, expected] = [*found, *expected].map(answer);
+                write!(f, "call {call:?}: {found}, the ledger: {expected}, ")?;
+                write!(f, "with {stamps} stamps from the opening on, n {n}")
             }
         }
     }

@@ -10,5 +10,6 @@ pub mod desk;
 pub mod difference;
 pub mod implementation;
 pub mod list;
+pub mod quiet;
 pub mod run;
 pub mod summary;

@@ -1,5 +1,6 @@
 //! Lists of calls and replays from a make on, beside the ledger. A replay counts there as its calls, one
-//! that is refused as none. The ground of each question is held against the ledger too.
+//! that is refused as none. The ground of each question is held against the ledger too, and its sum must be
+//! the ledger's where that is promised.
 
 use draw::calls::{call_of, Source};
 use draw::pace::Pace;
@@ -94,37 +95,66 @@ impl<'i, I: Implementation> List<'i, I> {
     }
 
     fn note(&mut self, answered: Answered, summary: &mut Summary) -> Result<(), Box<Difference>> {
-        let Answered {
-            call,
-            reply: found,
-            ground,
-        } = answered;
-        summary.add_splits(found);
+        let Answered { call, reply, .. } = answered;
+        summary.add_splits(reply);
         let expected = self.ledger.perform(call, self.desk.book().len());
-        if let (Ok(Answer::Sum(exact)), Ok(Answer::Sum(sum))) = (expected, found) {
-            let is_exact = exact == sum;
+        if let (Call::Query { grade, window }, Ok(Answer::Sum(sum))) = (call, reply) {
+            let is_exact = expected == reply;
             summary.add_to_list(if is_exact {
                 "an exact sum"
             } else {
                 "another sum"
             });
             summary.add_ground(self.ledger.shape(), is_exact);
+            summary.add_question(&self.ledger, grade, window, sum);
         }
-        if !agrees(&self.ledger, expected, found) {
-            return Err(Box::new(Difference::Ledger {
+        check(&self.ledger, expected, answered)
+    }
+}
+
+/// What a ledger that performed a call too, and answered this, contradicts in the book's answer.
+pub fn check(ledger: &Ledger, expected: Reply, answered: Answered) -> Result<(), Box<Difference>> {
+    let Answered {
+        call,
+        reply: found,
+        ground,
+    } = answered;
+    if !agrees(ledger, expected, found) {
+        return Err(Box::new(Difference::Ledger {
+            call,
+            expected,
+            found,
+        }));
+    }
+    if !is_grounded(ledger, answered) {
+        return Err(Box::new(Difference::Ground {
+            call,
+            expected,
+            found: ground,
+        }));
+    }
+    match call {
+        Call::Query { grade, window } if !is_exact_where_promised(ledger, answered) => {
+            Err(Box::new(Difference::Inexact {
                 call,
                 expected,
                 found,
-            }));
+                stamps: ledger.opened_stamps(grade, window),
+                n: ledger.shape().n(),
+            }))
         }
-        if !is_grounded(&self.ledger, answered) {
-            return Err(Box::new(Difference::Ground {
-                call,
-                expected,
-                found: ground,
-            }));
+        _ => Ok(()),
+    }
+}
+
+/// Whether a question has the ledger's sum where document 02, request Seven, promises that. What is refused
+/// and other calls are promised nothing.
+pub fn is_exact_where_promised(ledger: &Ledger, answered: Answered) -> bool {
+    match (answered.call, answered.reply) {
+        (Call::Query { grade, window }, Ok(Answer::Sum(sum))) => {
+            ledger.admits_sum(grade, window, sum)
         }
-        Ok(())
+        _ => true,
     }
 }
 

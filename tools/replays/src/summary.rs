@@ -6,12 +6,14 @@ use draw::book::Kind;
 use draw::tally::Tally;
 use draw::trace::{damage, met, Drawn, FORMS};
 use reference::calls::Reply;
+use reference::ledger::Ledger;
 use reference::protocol::answer;
 use reference::refusal;
 use reference::shape::Shape;
 
 use crate::desk::{Answered, Outcome};
 use crate::difference::Asked;
+use crate::quiet;
 
 /// A run of so many traces must show every kind of trace, of replay and of answer.
 pub const TRACES_FOR_ALL: u64 = 4_000;
@@ -39,6 +41,7 @@ pub struct Summary {
     met: Tally,
     lists: Tally,
     grounds: Tally,
+    questions: Tally,
 }
 
 /// Nothing counted yet.
@@ -77,6 +80,7 @@ impl Default for Summary {
             lists: Tally::new(lists, TRACES_FOR_ALL / 4),
             // Most that are off have few slots.
             grounds: Tally::new(GROUNDS.concat(), 4 * TRACES_FOR_ALL),
+            questions: Tally::new(quiet::all(), TRACES_FOR_ALL),
         }
     }
 }
@@ -143,6 +147,13 @@ impl Summary {
         self.grounds.add(kinds[usize::from(!is_exact)]);
     }
 
+    /// Counts a question of a list that was answered with this sum, by what is promised of it.
+    pub fn add_question(&mut self, ledger: &Ledger, grade: u32, window: u32, sum: u64) {
+        for kind in quiet::kinds(ledger, grade, window, sum) {
+            self.questions.add(kind);
+        }
+    }
+
     /// All traces, a list counting as one.
     pub fn traces(&self) -> u64 {
         self.ways.total()
@@ -158,6 +169,11 @@ impl Summary {
         &self.grounds
     }
 
+    /// How often each kind of question was answered in lists.
+    pub fn questions(&self) -> &Tally {
+        &self.questions
+    }
+
     /// What never occurred in a run that is long enough for it.
     pub fn faults(&self) -> Vec<String> {
         let tallies = [
@@ -171,6 +187,7 @@ impl Summary {
             &self.met,
             &self.lists,
             &self.grounds,
+            &self.questions,
         ];
         tallies.into_iter().flat_map(Tally::faults).collect()
     }
@@ -183,6 +200,7 @@ impl Display for Summary {
         write!(f, "all equal; {}; records: {}", self.replays, self.answers)?;
         write!(f, "; deliveries: {}; lists: {}", self.splits, self.lists)?;
         write!(f, "; grounds of lists: {}", self.grounds)?;
+        write!(f, "; questions of lists: {}", self.questions)?;
         write!(f, "; kinds met: {}", self.met.total())
     }
 }

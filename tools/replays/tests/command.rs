@@ -10,6 +10,7 @@ use replays::command::read;
 use replays::difference::{Difference, Of, What};
 use replays::implementation::Archive;
 use replays::list::agrees;
+use replays::quiet;
 use replays::run::{run, Failure};
 use replays::summary::GROUNDS;
 
@@ -49,6 +50,10 @@ fn every_kind_is_met_often() {
     for (kind, least) in GROUNDS.concat().into_iter().zip([1_000, 5, 1_000, 300]) {
         let count = summary.grounds().count(kind);
         assert!(count >= least, "{kind}: {count}");
+    }
+    for kind in quiet::all() {
+        let count = summary.questions().count(kind);
+        assert!(count >= 50, "{kind}: {count}");
     }
 }
 

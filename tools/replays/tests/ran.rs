@@ -267,7 +267,7 @@ fn assert_apart(name: &str, change: fn(Answer) -> Answer, after_replay: fn(&What
         match *failure.difference {
             Difference::Call(_) => in_list = true,
             Difference::Day { what, .. } => in_replay |= after_replay(&what),
-            Difference::Ledger { .. } | Difference::Ground { .. } => {}
+            Difference::Ledger { .. } | Difference::Ground { .. } | Difference::Inexact { .. } => {}
         }
         if in_list && in_replay {
             return;

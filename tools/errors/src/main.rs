@@ -1,5 +1,5 @@
-//! Writes the picture of the observed errors, and prints the greatest of each order and how many
-//! answers were exact.
+//! Writes the picture of the observed errors, and prints the greatest of each order, how many answers
+//! were exact, and how many of them were proved to be.
 
 use std::ffi::OsString;
 use std::fs;
@@ -41,9 +41,8 @@ fn run() -> Result<Vec<(Order, Observed)>, String> {
         let order = order(seed);
         let observed = observe(&order)?;
         println!("{}", table::row(&order, &observed));
-        let beyond = observed.observations.iter().find(|o| !o.within_bound());
-        if let Some(observation) = beyond {
-            return Err(format!("beyond the bound: {}, {observation:?}", order.name));
+        if let Some((observation, fault)) = observed.fault() {
+            return Err(format!("{fault}: {}, {observation:?}", order.name));
         }
         all.push((order, observed));
     }

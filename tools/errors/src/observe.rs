@@ -24,9 +24,16 @@ pub struct Observation {
     pub truth: u64,
     /// The book's sum.
     pub answer: u64,
+    /// Whether it is proved to be exact (document 02, request Seven).
+    pub proved_exact: bool,
 }
 
 impl Observation {
+    /// Whether the answer is the ledger's.
+    pub fn is_exact(self) -> bool {
+        self.answer == self.truth
+    }
+
     /// The error as a part of the true sum; a wrong answer about nothing is infinitely wrong.
     pub fn relative_error(self) -> f64 {
         match (self.truth, self.truth.abs_diff(self.answer)) {
@@ -40,6 +47,17 @@ impl Observation {
     pub fn within_bound(self) -> bool {
         let (part, whole) = BOUND;
         self.truth.abs_diff(self.answer) * whole <= part * self.truth
+    }
+
+    /// What was proved of the answer and does not hold, if anything.
+    pub fn fault(self) -> Option<&'static str> {
+        if !self.within_bound() {
+            Some("beyond the bound")
+        } else if self.proved_exact && !self.is_exact() {
+            Some("off, but proved exact")
+        } else {
+            None
+        }
     }
 }
 
@@ -58,6 +76,12 @@ impl Observed {
             f64::total_cmp(&a.relative_error(), &b.relative_error())
         };
         self.observations.iter().copied().max_by(by_error)
+    }
+
+    /// The first answer of which something proved does not hold, and what.
+    pub fn fault(&self) -> Option<(Observation, &'static str)> {
+        let mut observations = self.observations.iter();
+        observations.find_map(|o| Some((*o, o.fault()?)))
     }
 
     /// The answers to windows that have a delivery. The others are 0, which says nothing.
@@ -123,6 +147,7 @@ impl Site {
                         window,
                         truth,
                         answer,
+                        proved_exact: self.ledger.promises_exact(0, window),
                     });
                 }
             }

@@ -13,14 +13,17 @@ const COLUMNS: usize = 3;
 /// The corner of the first panel.
 const ORIGIN: (f64, f64) = (96.0, 186.0);
 /// From one panel's corner to the next one's: the panel and its labels beside, above and below.
-const STRIDE: (f64, f64) = (400.0, 306.0);
+const STRIDE: (f64, f64) = (400.0, 322.0);
 /// What is left free to the right of the last panel and below the labels of the last row.
-const MARGIN: (f64, f64) = (24.0, 50.0);
+const MARGIN: (f64, f64) = (48.0, 50.0);
 const WIDTH: f64 = 310.0;
 const HEIGHT: f64 = 190.0;
-/// Below the log scale, where exact answers lie.
-const EXACT_ROW: f64 = 204.0;
-const PANEL: f64 = 214.0;
+/// The rows below the log scale, where exact answers lie, from their tops: those without a proof, then
+/// those that are proved to be exact.
+const EXACT_ROW: f64 = 196.0;
+const PROVED_ROW: f64 = 214.0;
+const ROW: f64 = 16.0;
+const PANEL: f64 = PROVED_ROW + ROW;
 
 /// Smaller sums, which are all exact in practice, stand at the left end.
 const SUMS: Scale = Scale {
@@ -52,7 +55,8 @@ const ERROR_MARKS: [(f64, &str); 6] = [
 
 const BOUND_COLOUR: &str = "#b00020";
 const BOUND_STROKE: &str = "stroke-width=\"1.6\" stroke-dasharray=\"7 4\"";
-const STRIP_COLOUR: &str = "#eee";
+const EXACT_COLOUR: &str = "#eee";
+const PROVED_COLOUR: &str = "#d4d4d4";
 
 fn colour(kind: Kind) -> &'static str {
     match kind {
@@ -90,16 +94,16 @@ pub fn svg(observed: &[(Order, Observed)]) -> String {
 
 fn heading(observed: &[(Order, Observed)]) -> String {
     let [k, n, m, _] = SITE;
-    let share = Share::of(observed.iter().map(|(_, seen)| seen));
+    let [exact, proved] = Share::of(observed.iter().map(|(_, seen)| seen)).in_percent();
     format!(
         "<text x=\"20\" y=\"36\" font-size=\"20\" font-weight=\"bold\">Relative error of the \
          answers, observed and proved</text>\n\
          <text x=\"20\" y=\"60\" font-size=\"13\">Books of the site shape, k = {k}, n = {n}, M = {m}. \
          Each panel is an order in which deliveries arrive, each dot one answered question or \
          several.</text>\n\
-         <text x=\"20\" y=\"79\" font-size=\"13\">{} of all answers to windows with a delivery are \
-         exact.</text>\n",
-        share.in_percent()
+         <text x=\"20\" y=\"79\" font-size=\"13\">{exact} of all answers to windows with a delivery \
+         are exact. {proved} are proved to be: at most n different stamps lie from the opening on in \
+         its interval.</text>\n"
     )
 }
 
@@ -127,8 +131,10 @@ fn legend() -> String {
          <text x=\"62\" y=\"129\" font-size=\"13\">proved bound, 2(k+1)/(n-k-1) = {bound} %</text>\
          <circle cx=\"353\" cy=\"125\" r=\"5\" fill=\"none\" stroke=\"#222\" stroke-width=\"1.5\"/>\
          <text x=\"366\" y=\"129\" font-size=\"13\">greatest error of the order</text>\
-         <rect x=\"580\" y=\"119\" width=\"30\" height=\"12\" fill=\"{STRIP_COLOUR}\"/>\
-         <text x=\"618\" y=\"129\" font-size=\"13\">exact answers</text>"
+         <rect x=\"580\" y=\"119\" width=\"30\" height=\"12\" fill=\"{EXACT_COLOUR}\"/>\
+         <text x=\"618\" y=\"129\" font-size=\"13\">exact, not proved to be</text>\
+         <rect x=\"818\" y=\"119\" width=\"30\" height=\"12\" fill=\"{PROVED_COLOUR}\"/>\
+         <text x=\"856\" y=\"129\" font-size=\"13\">proved exact</text>"
     );
     legend
 }
@@ -140,14 +146,17 @@ fn error_y(error: f64) -> f64 {
 
 fn axes() -> String {
     let mut axes = String::new();
-    let top = HEIGHT + 4.0;
-    let band = PANEL - top;
-    let _ = writeln!(
-        axes,
-        "<rect y=\"{top}\" width=\"{WIDTH}\" height=\"{band}\" fill=\"{STRIP_COLOUR}\"/>\
-         <text x=\"-6\" y=\"{:.1}\" text-anchor=\"end\">exact</text>",
-        EXACT_ROW + 4.0
-    );
+    for (top, colour, text) in [
+        (EXACT_ROW, EXACT_COLOUR, "exact"),
+        (PROVED_ROW, PROVED_COLOUR, "proved exact"),
+    ] {
+        let _ = writeln!(
+            axes,
+            "<rect y=\"{top}\" width=\"{WIDTH}\" height=\"{ROW}\" fill=\"{colour}\"/>\
+             <text x=\"-6\" y=\"{:.1}\" text-anchor=\"end\">{text}</text>",
+            top + ROW / 2.0 + 4.0
+        );
+    }
     for (error, text) in ERROR_MARKS {
         let y = error_y(error);
         let _ = writeln!(
@@ -196,8 +205,9 @@ fn panel(order: &Order, observed: &Observed) -> String {
     let mut figures = "no answers".to_string();
     if let Some(worst) = observed.worst() {
         let error = worst.relative_error();
-        let share = Share::of([observed]).in_percent();
-        figures = format!("greatest error {}, {share} exact", percent(error));
+        let [exact, proved] = Share::of([observed]).in_percent();
+        let greatest = percent(error);
+        figures = format!("greatest error {greatest}, {exact} exact, {proved} proved exact");
         if error > 0.0 {
             let _ = writeln!(
                 panel,
@@ -211,7 +221,7 @@ fn panel(order: &Order, observed: &Observed) -> String {
     let _ = writeln!(
         panel,
         "<text y=\"-25\" font-size=\"13\" font-weight=\"bold\">{}</text>\
-         <text y=\"-9\" font-size=\"12\">{figures}</text>",
+         <text y=\"-9\">{figures}</text>",
         order.name
     );
     panel
@@ -222,11 +232,10 @@ fn dots(observed: &Observed) -> String {
     let pixels: BTreeSet<(i64, i64)> = observed
         .telling()
         .map(|observation| {
-            let error = observation.relative_error();
-            let y = if error == 0.0 {
-                EXACT_ROW
-            } else {
-                error_y(error)
+            let y = match (observation.is_exact(), observation.proved_exact) {
+                (false, _) => error_y(observation.relative_error()),
+                (true, false) => EXACT_ROW + ROW / 2.0,
+                (true, true) => PROVED_ROW + ROW / 2.0,
             };
             let x = SUMS.place(observation.truth as f64);
             (x.round() as i64, y.round() as i64)

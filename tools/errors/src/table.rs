@@ -1,14 +1,16 @@
-//! The greatest error and the exact answers of each order, as text.
+//! The greatest error of each order, its exact answers and those that are proved to be exact, as text.
 
 use crate::observe::Observed;
 use crate::order::{Kind, Order};
 
-/// How many of some answers are exact. Answers to windows without a delivery, which are 0, do not
-/// count.
+/// How many of some answers are exact, and proved to be. Answers to windows without a delivery, which are
+/// 0, do not count.
 #[derive(Clone, Copy, Debug, PartialEq, Eq)]
 pub struct Share {
     /// The exact ones.
     pub exact: usize,
+    /// Those that are proved to be exact.
+    pub proved: usize,
     /// All of them.
     pub answers: usize,
 }
@@ -18,28 +20,32 @@ impl Share {
     pub fn of<'a>(observed: impl IntoIterator<Item = &'a Observed>) -> Share {
         let mut share = Share {
             exact: 0,
+            proved: 0,
             answers: 0,
         };
         for observation in observed.into_iter().flat_map(Observed::telling) {
             share.answers += 1;
-            share.exact += usize::from(observation.truth == observation.answer);
+            share.exact += usize::from(observation.is_exact());
+            share.proved += usize::from(observation.proved_exact);
         }
         share
     }
 
-    /// In whole percent.
-    pub fn in_percent(self) -> String {
-        let part = 100.0 * self.exact as f64 / self.answers.max(1) as f64;
-        format!("{part:.0} %")
+    /// The exact ones and the proved ones among all, in whole percent.
+    pub fn in_percent(self) -> [String; 2] {
+        [self.exact, self.proved].map(|part| {
+            let part = 100.0 * part as f64 / self.answers.max(1) as f64;
+            format!("{part:.0} %")
+        })
     }
 }
 
 /// The head of the table.
 pub fn head() -> String {
-    let columns = ["order", "deliveries", "answers", "exact", "greatest error"];
-    let [order, deliveries, answers, exact, error] = columns;
-    let at = "at window, true sum";
-    format!("{order:36} {deliveries:>10} {answers:>8} {exact:>14} {error:>15}  {at}")
+    let [order, deliveries, answers] = ["order", "deliveries", "answers"];
+    let [exact, proved] = ["exact", "proved exact"];
+    let [error, at] = ["greatest error", "at window, true sum"];
+    format!("{order:36} {deliveries:>10} {answers:>8} {exact:>14} {proved:>14} {error:>15}  {at}")
 }
 
 /// The row of an order.
@@ -74,8 +80,11 @@ pub fn shares(all: &[(Order, Observed)]) -> String {
 }
 
 fn counts(share: Share) -> String {
-    let (answers, exact, percent) = (share.answers, share.exact, share.in_percent());
-    format!("{answers:>8} {exact:>7}, {percent:>5}")
+    let (answers, [exact, proved]) = (share.answers, share.in_percent());
+    format!(
+        "{answers:>8} {:>7}, {exact:>5} {:>7}, {proved:>5}",
+        share.exact, share.proved
+    )
 }
 
 /// A part of one, in percent with three figures.

@@ -1,18 +1,13 @@
 //! The observations, the orders and the table.
 
+mod seen;
+
 use draw::random::Random;
 use draw::shapes::within;
-use errors::observe::{observe, Observation, Observed, BOUND, SITE, TICKS};
+use errors::observe::{observe, Observed, BOUND, SITE, TICKS};
 use errors::order::{windows, Kind, Order, Step};
-use errors::{table, unusual, ORDERS};
-
-fn observation(truth: u64, answer: u64) -> Observation {
-    Observation {
-        window: 60,
-        truth,
-        answer,
-    }
-}
+use errors::{forecourt, table, unusual, ORDERS};
+use seen::{observation, observed, proved, seen};
 
 #[test]
 fn the_bound_is_a_tenth() {
@@ -32,6 +27,67 @@ fn relative_errors() {
     assert_eq!(observation(200, 190).relative_error(), 0.05);
     assert_eq!(observation(0, 0).relative_error(), 0.0);
     assert_eq!(observation(0, 1).relative_error(), f64::INFINITY);
+}
+
+#[test]
+fn what_was_proved_must_hold() {
+    assert_eq!(observed().fault(), None);
+    for (wrong, fault) in [
+        (observation(1000, 1101), "beyond the bound"),
+        (proved(1000, 1101), "beyond the bound"),
+        (proved(1000, 1001), "off, but proved exact"),
+        (proved(1000, 999), "off, but proved exact"),
+        (observation(0, 1), "beyond the bound"),
+    ] {
+        let mut observed = observed();
+        observed.observations.insert(2, wrong);
+        assert_eq!(observed.fault(), Some((wrong, fault)));
+    }
+}
+
+/// From the clock back, 442 stamps two ticks apart: one more than n.
+#[test]
+fn answers_that_are_proved_to_be_exact() {
+    let [_, n, _, _] = SITE;
+    let clock = TICKS - 1;
+    let mut steps = vec![Step::Clock(clock)];
+    steps.extend((0..=n).map(|number| Step::Delivery {
+        stamp: clock - 2 * number,
+        volume: 1,
+    }));
+    let asked = [
+        (1, true),
+        (n, true),
+        (n + 1, true),
+        (2 * n, true),
+        (2 * n + 1, false),
+        (TICKS, false),
+    ];
+    steps.push(Step::Ask(asked.map(|(window, _)| window).to_vec()));
+    let order = Order {
+        name: "two ticks apart",
+        kind: Kind::Pattern,
+        books: vec![steps],
+    };
+    let observed = observe(&order).expect("library and ledger agree");
+    let found = observed.observations.iter();
+    assert!(found.map(|o| (o.window, o.proved_exact)).eq(asked));
+    assert_eq!(observed.fault(), None);
+}
+
+/// Most of the proved ones have wider windows than n, and some answers are exact without a proof.
+#[test]
+fn a_forecourt_shows_answers_of_every_kind() {
+    let mut order = forecourt::prompt(9);
+    order.books[0].truncate(12_000);
+    let observed = observe(&order).expect("library and ledger agree");
+    assert_eq!(observed.fault(), None);
+    let all = || observed.telling();
+    let wide = all().filter(|o| o.proved_exact && o.window > SITE[1]);
+    let exact = all().filter(|o| !o.proved_exact && o.is_exact());
+    let off = all().filter(|o| !o.is_exact());
+    let counts = [wide.count(), exact.count(), off.count()];
+    assert!(counts.iter().all(|count| *count >= 20), "{counts:?}");
 }
 
 #[test]
@@ -126,31 +182,12 @@ fn refused_steps_are_reported() {
     assert!(trouble.contains("Err(9)"), "{trouble}");
 }
 
-fn seen(name: &'static str, kind: Kind) -> (Order, Observed) {
-    let observations = vec![
-        observation(0, 0),
-        observation(10, 10),
-        observation(1_000_000, 1_030_000),
-        observation(2_000_000, 1_999_999),
-    ];
-    let order = Order {
-        name,
-        kind,
-        books: vec![],
-    };
-    let observed = Observed {
-        deliveries: 3,
-        observations,
-    };
-    (order, observed)
-}
-
 #[test]
-fn the_table_names_the_worst_and_what_was_exact() {
+fn the_table_names_the_worst_and_what_was_exact_and_proved() {
     let (order, observed) = seen("calm", Kind::Forecourt);
     let row = table::row(&order, &observed);
     let words: Vec<&str> = row.split_whitespace().collect();
-    let expected = "calm 3 3 1, 33 % 3.00 % 60 s, 1000000 dl";
+    let expected = "calm 3 4 2, 50 % 1, 25 % 3.00 % 60000 s, 1000000 dl";
     assert_eq!(words.join(" "), expected);
 }
 
@@ -172,8 +209,8 @@ fn exact_answers_are_shared_out_by_kind() {
         let row = rows.iter().find(|row| row.starts_with(&name)).unwrap();
         row[name.len()..].join(" ")
     };
-    assert_eq!(found(Kind::Forecourt.name()), "3 1, 33 %");
-    assert_eq!(found(Kind::Random.name()), "1 1, 100 %");
-    assert_eq!(found(Kind::Pattern.name()), "0 0, 0 %");
-    assert_eq!(found("all orders"), "4 2, 50 %");
+    assert_eq!(found(Kind::Forecourt.name()), "4 2, 50 % 1, 25 %");
+    assert_eq!(found(Kind::Random.name()), "1 1, 100 % 0, 0 %");
+    assert_eq!(found(Kind::Pattern.name()), "0 0, 0 % 0, 0 %");
+    assert_eq!(found("all orders"), "5 3, 60 % 1, 20 %");
 }

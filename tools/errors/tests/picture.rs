@@ -1,34 +1,11 @@
 //! The picture: it is whole, and no label lies over another one or over a panel.
 
-use errors::observe::{Observation, Observed};
-use errors::order::{Kind, Order};
+mod seen;
+
+use errors::order::Kind;
 use errors::picture::svg;
 use errors::ORDERS;
-
-fn observed() -> Observed {
-    let observation = |truth, answer| Observation {
-        window: 60,
-        truth,
-        answer,
-    };
-    Observed {
-        deliveries: 3,
-        observations: vec![
-            observation(10, 10),
-            observation(1_000_000, 1_030_000),
-            observation(2_000_000, 1_999_999),
-        ],
-    }
-}
-
-fn seen(name: &'static str, kind: Kind) -> (Order, Observed) {
-    let order = Order {
-        name,
-        kind,
-        books: vec![],
-    };
-    (order, observed())
-}
+use seen::{observed, seen};
 
 #[test]
 fn the_picture_is_whole() {
@@ -39,7 +16,8 @@ fn the_picture_is_whole() {
     let texts = [
         "calm",
         "storm",
-        "greatest error 3.00 %, 33 % exact",
+        "greatest error 3.00 %, 50 % exact, 25 % proved exact",
+        "50 % of all answers to windows with a delivery are exact. 25 % are proved to be",
         "= 10 %",
     ];
     for text in texts.into_iter().chain(Kind::ALL.map(Kind::name)) {
@@ -56,8 +34,8 @@ fn the_picture_is_whole() {
             assert!(rest[..end].ends_with('/'), "{tag}");
         }
     }
-    // Three answers on three pixels for each order.
-    assert_eq!(svg.matches("h0").count(), 6);
+    // Four answers on four pixels for each order.
+    assert_eq!(svg.matches("h0").count(), 8);
     assert!(!svg.contains("NaN") && !svg.contains("inf"));
 }
 
@@ -160,7 +138,7 @@ fn no_label_lies_over_another_or_over_a_panel() {
     let all = ORDERS.map(|order| (order(1), observed()));
     let (labels, panels, whole) = areas(&svg(&all));
     assert_eq!(panels.len(), ORDERS.len());
-    assert!(labels.len() > 17 * ORDERS.len(), "{}", labels.len());
+    assert!(labels.len() > 18 * ORDERS.len(), "{}", labels.len());
     for (place, one) in labels.iter().enumerate() {
         let others = labels[place + 1..].iter().chain(&panels);
         for other in others {
@@ -168,6 +146,38 @@ fn no_label_lies_over_another_or_over_a_panel() {
         }
         let inside = one.left >= 0.0 && one.right <= whole.right && one.bottom <= whole.bottom;
         assert!(inside, "{} is cut", one.what);
+    }
+}
+
+/// The dots of a picture of one panel, from its corner.
+fn dots(svg: &str) -> Vec<(f64, f64)> {
+    let ends = svg.match_indices("h0").map(|(end, _)| &svg[..end]);
+    let dot = |before: &str| {
+        let (_, dot) = before.rsplit_once('M').expect("a start");
+        let (x, y) = dot.split_once(' ').expect("two numbers");
+        (x.parse().unwrap(), y.parse().unwrap())
+    };
+    ends.map(dot).collect()
+}
+
+/// A sum of 10 is proved to be exact, one of 1,000 is exact without a proof; each lies beside its row's label.
+#[test]
+fn exact_answers_have_two_rows() {
+    let svg = svg(&[seen("calm", Kind::Forecourt)]);
+    let (labels, panels, _) = areas(&svg);
+    let panel = &panels[0];
+    for (row, sum_mark) in [("proved exact", "≤ 10²"), ("exact", "10³")] {
+        // The legend has the same words further to the right.
+        let is_row = |label: &&Area| label.what == row && label.right <= panel.left;
+        let row = labels.iter().find(is_row).expect("a label of the row");
+        let mark = labels.iter().find(|label| label.what == sum_mark);
+        let mark = mark.expect("a mark of the sum");
+        let inside = |(x, y): &(f64, f64)| {
+            let (x, y) = (panel.left + x, panel.top + y);
+            (row.top..=row.bottom).contains(&y) && (mark.left..=mark.right).contains(&x)
+        };
+        let found = dots(&svg).iter().filter(|dot| inside(dot)).count();
+        assert_eq!(found, 1, "{}", row.what);
     }
 }
 

@@ -1,5 +1,6 @@
 -- The claim (demand 3): `Claim` of the model, by one induction over the calls of the list. The invariant is that the words are those of the
--- ledger. Rests on `agree` (the same first refusal), on what each accepted call leaves, and on the bound and the limit of an answer.
+-- ledger. Rests on `agree` (the same first refusal), on what each accepted call leaves, and on the bound, the limit and the exactness of an
+-- answer.
 use mathlib.Core.Bool.{true}
 use mathlib.Core.Path.{_≡_, refl, sym, ap, ap₂, _∙_}
 use mathlib.Core.Logic.{⊎-elim}

@@ -12,7 +12,7 @@ use Rattle.shape.specs.declared.Shape.{Shape}
 use Rattle.shape.specs.LimitsLaws.{both}
 use Rattle.model.specs.Block.{interval, offsetOf, opening, windowSum}
 use Rattle.model.specs.Ledger.{Entry, Ledger, volumeOf, ofInterval, ofWindow}
-use Rattle.model.specs.Stamps.{fromOpening, stampsOf, occurs, different, differentStamps}
+use Rattle.model.specs.Stamps.{fromOpening, stampsOf, occurs, differentStamps}
 use Rattle.model.specs.Claim.{Each}
 use Rattle.laws.specs.Cond.{eq-or-ne, and-true}
 use Rattle.theory.specs.Fed.{Event, fed, counted, fed-exact}
@@ -22,7 +22,7 @@ use Rattle.ledger.specs.Time.{tick-split, offset-lt}
 use Rattle.ledger.specs.Grown.{events, events-inside, halfFed, volumeOf-cong, counted-events}
 use Rattle.ledger.specs.Book.{blockFor}
 use Rattle.ledger.specs.State.{Good}
-use Rattle.ledger.specs.Window.{leb-same, sum-relates}
+use Rattle.ledger.specs.Window.{leb-same, fromOffset, sum-relates}
 
 -- ---- stamps and entries
 
@@ -37,21 +37,21 @@ module _ (p : Entry → Bool) where
       go true is rest = (f e (h .0) is, rest)
       go false is rest = rest
 
-  -- a stamp that does not occur is borne by none of them
+  -- what holds of each entry if a stamp that does not occur is borne by none of them
   abbrev Unborne : ℕ → Entry → Type 0
   Unborne stamp e = p e ≡ true → stamp ≡ e .stamp → ⊥
 
-  stamps-none : (stamp : ℕ) (es : List Entry) → occurs stamp (stampsOf p es) ≡ false → Each (Unborne stamp) es
-  stamps-none stamp [] h = tt
-  stamps-none stamp (e ∷ es) h = go (p e) refl (stamps-none stamp es) h
+  stamps-none : (P : Entry → Type 0) (stamp : ℕ) → ((e : Entry) → Unborne stamp e → P e) → (es : List Entry) → occurs stamp (stampsOf p es) ≡ false → Each P es
+  stamps-none P stamp f [] h = tt
+  stamps-none P stamp f (e ∷ es) h = go (p e) refl (stamps-none P stamp f es) h
     where
-      go : (here : Bool) → p e ≡ here → (occurs stamp (stampsOf p es) ≡ false → Each (Unborne stamp) es)
-          → occurs stamp (cond here (e .stamp ∷ stampsOf p es) (stampsOf p es)) ≡ false → Each (Unborne stamp) (e ∷ es)
-      go false is rest none = (λ yes. absurd (true≢false (sym yes ∙ is)), rest none)
+      go : (here : Bool) → p e ≡ here → (occurs stamp (stampsOf p es) ≡ false → Each P es)
+          → occurs stamp (cond here (e .stamp ∷ stampsOf p es) (stampsOf p es)) ≡ false → Each P (e ∷ es)
+      go false is rest none = (f e (λ yes. absurd (true≢false (sym yes ∙ is))), rest none)
       go true is rest none =
           ⊎-elim
           (λ (same : stamp ≡ e .stamp). absurd (true≢false (rw (eq-eqb stamp (e .stamp) same) at none)))
-          (λ (other : stamp ≡ e .stamp → ⊥). (λ _. other, rest (rw (ne-eqb stamp (e .stamp) other) at none)))
+          (λ (other : stamp ≡ e .stamp → ⊥). (f e (λ _. other), rest (rw (ne-eqb stamp (e .stamp) other) at none)))
           (eq-or-ne stamp (e .stamp))
 
 -- ---- the answers
@@ -109,7 +109,7 @@ module _ (l : Ledger) (good : Good l) (p : Entry → Bool) (window : ℕ) where
     stamp = j * 2 ^ s .k + t
 
     abbrev Same : Entry → Type 0
-    Same e = (inInterval e && leb t (offsetOf s (e .stamp))) ≡ (inInterval e && leb (suc t) (offsetOf s (e .stamp)))
+    Same e = fromOffset s p j t e ≡ fromOffset s p j (suc t) e
 
     entry-same : (e : Entry) → Unborne counts stamp e → Same e
     entry-same e unborne = go (inInterval e) refl
@@ -126,15 +126,10 @@ module _ (l : Ledger) (good : Good l) (p : Entry → Bool) (window : ℕ) where
         go false is = refl
         go true is = leb-same t x (suc t) x (λ h. omega (arith, h, other is)) (λ h. omega arith)
 
-    entries-same : (fs : List Entry) → Each (Unborne counts stamp) fs → Each Same fs
-    entries-same [] h = tt
-    entries-same (e ∷ fs) h = (entry-same e (h .0), entries-same fs (h .1))
-
     no-volume : occurs stamp stamps ≡ false → counted (events s inInterval es) t ≡ counted (events s inInterval es) (suc t)
     no-volume none =
         counted-events s inInterval t es
-        ∙ volumeOf-cong s (λ e. inInterval e && leb t (offsetOf s (e .stamp))) (λ e. inInterval e && leb (suc t) (offsetOf s (e .stamp))) es
-        (entries-same es (stamps-none counts stamp es none))
+        ∙ volumeOf-cong s (fromOffset s p j t) (fromOffset s p j (suc t)) es (stamps-none counts Same stamp entry-same es none)
         ∙ sym (counted-events s inInterval (suc t) es)
 
   -- at most n different stamps

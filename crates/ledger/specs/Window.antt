@@ -47,7 +47,7 @@ module _ (s : Shape) (start stamp : ℕ) where
 -- ---- the ledger's sum by interval and offset
 
 -- an entry that satisfies a test, in interval j and from offset a on
-abbrev fromOffset : Shape → (Entry → Bool) → ℕ → ℕ → Entry → Bool
+abbrev pub fromOffset : Shape → (Entry → Bool) → ℕ → ℕ → Entry → Bool
 fromOffset s p j a e = ofInterval s p j e && leb a (offsetOf s (e .stamp))
 
 -- if each entry counts for p what it counts for q and r together, so do the sums

@@ -23,5 +23,5 @@ abbrev pub different : List ℕ → ℕ  -- how many different numbers these are
 different [] = 0
 different (x ∷ xs) = cond (occurs x xs) 0 1 + different xs
 
-abbrev pub differentStamps : Ledger → (Entry → Bool) → ℕ → ℕ  -- SPECIFICATION 9.8: how many different stamps those entries bear
+abbrev pub differentStamps : Ledger → (Entry → Bool) → ℕ → ℕ  -- SPECIFICATION 9.8: how many different stamps the entries that satisfy a test bear, in the interval where a window opens, from its opening on
 differentStamps l p window = different (stampsOf (fromOpening l p window) (l .entries))

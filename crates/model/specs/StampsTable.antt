@@ -1,11 +1,11 @@
--- SPECIFICATION 9.8: the different stamps of some windows, beside the sums of the book and of the ledger, as one table that the definitions meet.
--- Assumes nothing.
+-- SPECIFICATION 9.8: the different stamps of some windows, beside the sums of the book and of the ledger, as one table that the definitions meet;
+-- and what the claim demands by them. Assumes nothing.
 use mathlib.Core.Path.{_≡_, refl}
 use mathlib.Core.List.{List, [], _∷_, _++_}
-use Prim.Native.Nat.{ℕ}
+use Prim.Native.Nat.{ℕ, _≤_}
 use lib.ListN.{replicate}
 use Rattle.shape.specs.declared.Shape.{Shape}
-use Rattle.shape.specs.Limits.{accepted, within, shaped}
+use Rattle.shape.specs.Limits.{Reply, accepted, within, shaped}
 use Rattle.shape.specs.Layout.{bookWords, blockWords, blockStart, levelStart}
 use Rattle.model.specs.declared.Call.{Call}
 use Rattle.model.specs.declared.Call.the-variants.{Make, Clock, Delivery, Query}
@@ -17,7 +17,7 @@ use Rattle.model.specs.Calls.{refusals, bookView, made, clocked, deliver
 use Rattle.model.specs.Replay.{leftBy}
 use Rattle.model.specs.Ledger.{Ledger, ledgerOf, ofGrade, ledgerView, enter}
 use Rattle.model.specs.Stamps.{differentStamps}
-use Rattle.model.specs.Claim.{Each}
+use Rattle.model.specs.Claim.{Turn, Each, Quiet, Short}
 use Rattle.model.specs.Table.{exampleShape, entered, d, p₂, p₃, p₇}
 
 -- a question, how many different stamps count for it, and the sums of the book and of the ledger
@@ -73,6 +73,14 @@ stampsTable =
     ∷ of (shaped 3 2 4 1) (Clock 7 ∷ d 0 2 ∷ d 7 1 ∷ d 1 1 ∷ d 5 3 ∷ d 2 1 ∷ []) (row 0 4 2 4 4 ∷ row 0 8 5 8 8 ∷ [])
     -- nor does what was delivered for another grade
     ∷ of (shaped 2 2 4 2) (Clock 3 ∷ d 1 2 ∷ Delivery 1 0 1 ∷ d 3 1 ∷ Delivery 1 2 1 ∷ []) (row 0 4 2 3 3 ∷ row 1 4 2 2 2 ∷ [])
+    -- a stamp counts once, whatever its volumes are and whatever was delivered in between
+    ∷ of exampleShape (Clock 3 ∷ d 1 1 ∷ d 3 1 ∷ d 3 2 ∷ d 3 1 ∷ d 1 2 ∷ []) (row 0 4 2 7 7 ∷ [])
+    -- openings in an odd interval, at its first tick and after it; and at the last tick of the interval before
+    ∷ of exampleShape (Clock 3 ∷ p₇ ++ Clock 6 ∷ d 4 1 ∷ d 6 2 ∷ []) (row 0 2 1 2 2 ∷ row 0 3 2 3 3 ∷ row 0 4 1 4 4 ∷ [])
+    -- a make of another k
+    ∷ of exampleShape (Clock 3 ∷ p₇ ++ Make 3 2 4 1 ∷ Clock 7 ∷ d 1 1 ∷ d 6 1 ∷ []) (row 0 8 2 2 2 ∷ [])
+    -- a window that exceeds the clock by more than 1
+    ∷ of exampleShape (Clock 1 ∷ d 1 1 ∷ d 0 2 ∷ []) (row 0 4 2 3 3 ∷ [])
     ∷ []
 
 pub stampsTable-holds : Each MeetsStamps stampsTable
@@ -97,7 +105,19 @@ stampsTable-holds = (
                   ((refl, (refl, refl)), ((refl, (refl, refl)), tt)),
                   (
                     ((refl, (refl, refl)), ((refl, (refl, refl)), tt)),
-                    tt,
+                    (
+                      ((refl, (refl, refl)), tt),
+                      (
+                        ((refl, (refl, refl)), ((refl, (refl, refl)), ((refl, (refl, refl)), tt))),
+                        (
+                          ((refl, (refl, refl)), tt),
+                          (
+                            ((refl, (refl, refl)), tt),
+                            tt,
+                          ),
+                        ),
+                      ),
+                    ),
                   ),
                 ),
               ),
@@ -108,3 +128,11 @@ stampsTable-holds = (
     ),
   ),
 )
+
+-- what the claim demands of any reply to an answered question: it is the ledger's where at most n different stamps count, and where the window
+-- is at most n
+pub exact-demanded : (ws : List ℕ) (l : Ledger) (grade window sum : ℕ) (reply : Reply) → reply .number ≡ 0 →
+    let exact = accepted (sum ∷ []) in
+    let t : Turn = record { call = Query grade window; words = ws; ledger = l; book = reply; exact = exact } in
+    (differentStamps l (ofGrade grade) window ≤ l .shape .n → Quiet t → reply ≡ exact) × (window ≤ l .shape .n → Short t → reply ≡ exact)
+exact-demanded ws l grade window sum reply number = (λ few quiet. quiet number few, λ w short. short number w)

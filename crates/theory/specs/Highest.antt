@@ -29,11 +29,9 @@ pub record Highest (k n : ℕ) (c : ℕ → ℕ) (l : Level) : Type 0 where
   pub full : 0 < l .first → length (l .buckets) ≡ n
   pub edge : Edge c l
 
--- the first bucket of a list counts in the sum from its own offset on, and no longer from the next one on
-pub head-counts : (b : Bucket) (bs : List Bucket) → 1 ≤ b .weight → sumFrom (suc (b .offset)) (b ∷ bs) < sumFrom (b .offset) (b ∷ bs)
-head-counts b bs some =
-    let o = b .offset in
-    omega (arith, share-all o (b .weight) o (le-refl o), sumFrom-past b bs (suc o) (omega arith), sumFrom-falls bs o (suc o) (omega arith))
+-- the first bucket of a list counts in the sum from its own offset f on, and no longer from the next one on
+pub head-counts : (b : Bucket) (bs : List Bucket) (f : ℕ) → b .offset ≡ f → 1 ≤ b .weight → sumFrom (suc f) (b ∷ bs) < sumFrom f (b ∷ bs)
+head-counts b bs f same some = omega (arith, share-all (b .offset) (b .weight) f (omega arith), sumFrom-past b bs (suc f) (omega arith), sumFrom-falls bs f (suc f) (omega arith))
 
 -- ---- the edge is kept
 
@@ -45,8 +43,7 @@ evict-edge k n c first (b ∷ bs) g edge =
     let same : b .offset ≡ f = omega arith in
     let here = g .1 f (omega (arith, g .0 .0 .low)) in
     let next = g .1 (suc f) (omega (arith, g .0 .0 .low)) in
-    let counts = subst (λ (z : ℕ). sumFrom (suc z) (b ∷ bs) < sumFrom z (b ∷ bs)) same (head-counts b bs (g .0 .0 .some)) in
-    omega (arith, counts))
+    omega (arith, head-counts b bs f same (g .0 .0 .some)))
     (λ _. edge)
 
 module _ (k n : ℕ) (two : 2 ≤ n) (x : ℕ) (inside : x < 2 ^ k) where
@@ -89,7 +86,7 @@ head-shows b bs others some above same =
       arith,
       same o (le-refl o),
       same (suc o) (omega arith),
-      head-counts b bs some,
+      head-counts b bs o refl some,
       sumFrom-all o others (at-least-less o (suc o) others (omega arith) above),
       sumFrom-all (suc o) others above,
     )

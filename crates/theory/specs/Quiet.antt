@@ -24,11 +24,10 @@ rising-count p k zero i (b ∷ bs) r end shows = absurd (omega (arith, r .0 .low
 rising-count p k (suc c) i (b ∷ bs) r end shows =
     ⊎-elim
     (λ (here : b .offset ≡ i).
-    let less : sumFrom (suc i) (b ∷ bs) < sumFrom i (b ∷ bs) = subst (λ (z : ℕ). sumFrom (suc z) (b ∷ bs) < sumFrom z (b ∷ bs)) here (head-counts b bs (r .0 .some)) in
     let rest : length bs ≤ countFrom p (suc i) c =
     rising-count p k c (suc i) bs (subst (λ (z : ℕ). Rising k z bs) (omega arith) (r .1)) (omega arith)
     (λ t low drop. shows t (omega arith) (omega (arith, drop, sumFrom-past b bs t (omega arith), sumFrom-past b bs (suc t) (omega arith)))) in
-    rw (shows i (le-refl i) less) (omega (arith, rest)))
+    rw (shows i (le-refl i) (head-counts b bs i here (r .0 .some))) (omega (arith, rest)))
     (λ (other : b .offset ≡ i → ⊥).
     let above : suc i ≤ b .offset = omega (arith, r .0 .low, other) in
     omega (arith, rising-count p k c (suc i) (b ∷ bs) (raised-to k i (suc i) b bs above r) (omega arith) (λ t low. shows t (omega arith))))

@@ -14,11 +14,11 @@
  * to it. The true sum is what the accepted deliveries in the window add up to. Where only these
  * calls have written the book since it was made, each given all its words, a sum is off by at most
  * 2(k+1)/(n-k-1) of the true sum if n is above k + 1. With k = 20 and n = 441 that is one tenth.
- * Whatever n is, a sum on such a book is off by at most the limit that litres_ground gives, and the
- * sum of a window of up to n ticks is exact. So is that of a longer one if the accepted deliveries
- * of its grade, from its opening to the end of the interval in which it opens, bear at most n
- * different stamps. With n = 441 these are all windows of up to seven minutes, and every window
- * over a quiet stretch.
+ * On such a book, whatever n is, a sum is off by at most the limit that litres_ground gives, and
+ * the sum of a window of up to n ticks is exact. So is that of a longer one if the accepted
+ * deliveries of its grade, from its opening to the end of the interval in which it opens, bear at
+ * most n different stamps. With n = 441 these are all windows of up to seven minutes, and every
+ * window that opens in a quiet stretch which lasts to the end of its interval.
  *
  * The book is an array of 32-bit words in the processor's byte order. It starts with a head of 8
  * words, which a program may read:

@@ -41,7 +41,7 @@ pub record Next (l : Ledger) (call : Call) : Type 0 where
   pub span : ByCall (perform (wordsOf l) call .reply .number ≡ 0 → ⊥) (Unit {0}) (λ _. Unit {0}) (λ _ _. Unit {0}) call
       → (later .shape .k ≡ l .shape .k) × (l .clock ≤ later .clock)
 
--- what `Kept` says of a single turn
+-- what `Kept` says of a single turn's answer, besides its number
 record TurnKept (t : Turn) : Type 0 where
   pub bound : Bound t
   pub grounds : Grounds t

@@ -37,7 +37,7 @@ module _ (p : Entry → Bool) where
       go true is rest = (f e (h .0) is, rest)
       go false is rest = rest
 
-  -- what holds of each entry if a stamp that does not occur is borne by none of them
+  -- an entry that satisfies the test does not bear this stamp
   abbrev Unborne : ℕ → Entry → Type 0
   Unborne stamp e = p e ≡ true → stamp ≡ e .stamp → ⊥
 
@@ -87,8 +87,8 @@ module _ (l : Ledger) (good : Good l) (p : Entry → Bool) (window : ℕ) where
   stamp-low : (e : Entry) → counts e ≡ true → start ≤ e .stamp
   stamp-low e h = leb-true start (e .stamp) (both {a = inInterval e} {b = leb start (e .stamp)} h .1)
 
-  in-interval : (e : Entry) → inInterval e ≡ true → interval s (e .stamp) ≡ j
-  in-interval e h = eqb-true (interval s (e .stamp)) j (both {a = p e} {b = eqb (interval s (e .stamp)) j} h .1)
+  interval-is : (e : Entry) → inInterval e ≡ true → interval s (e .stamp) ≡ j
+  interval-is e h = eqb-true (interval s (e .stamp)) j (both {a = p e} {b = eqb (interval s (e .stamp)) j} h .1)
 
   -- the different stamps can be counted from the opening on
   along : (c : ℕ) → ((e : Entry) → e .stamp ≤ clock → counts e ≡ true → e .stamp < start + c)
@@ -100,7 +100,7 @@ module _ (l : Ledger) (good : Good l) (p : Entry → Bool) (window : ℕ) where
   -- up to the end of the interval
   interval-end : (e : Entry) → counts e ≡ true → e .stamp < start + (2 ^ s .k - a)
   interval-end e h =
-      let here : interval s (e .stamp) ≡ j = in-interval e (both {a = inInterval e} {b = leb start (e .stamp)} h .0) in
+      let here : interval s (e .stamp) ≡ j = interval-is e (both {a = inInterval e} {b = leb start (e .stamp)} h .0) in
       omega (arith, ap (λ (z : ℕ). z * 2 ^ s .k) here, tick-split s start, tick-split s (e .stamp), offset-lt s start, offset-lt s (e .stamp))
 
   -- where a stamp from the opening on does not occur, no volume was delivered
@@ -119,7 +119,7 @@ module _ (l : Ledger) (good : Good l) (p : Entry → Bool) (window : ℕ) where
 
         other : inInterval e ≡ true → x ≡ t → ⊥
         other is same =
-            let at : stamp ≡ e .stamp = omega (arith, ap (λ (z : ℕ). z * 2 ^ s .k) (in-interval e is), tick-split s (e .stamp)) in
+            let at : stamp ≡ e .stamp = omega (arith, ap (λ (z : ℕ). z * 2 ^ s .k) (interval-is e is), tick-split s (e .stamp)) in
             unborne (and-true is (le-leb start (e .stamp) (omega (arith, low, at, tick-split s start)))) at
 
         go : (here : Bool) → inInterval e ≡ here → (here && leb t x) ≡ (here && leb (suc t) x)
@@ -132,7 +132,7 @@ module _ (l : Ledger) (good : Good l) (p : Entry → Bool) (window : ℕ) where
         ∙ volumeOf-cong s (fromOffset s p j t) (fromOffset s p j (suc t)) es (stamps-none counts Same stamp entry-same es none)
         ∙ sym (counted-events s inInterval (suc t) es)
 
-  -- at most n different stamps
+  -- where at most n different stamps count, the book's sum is the ledger's
   pub sum-exact : window ≤ 2 ^ s .k → differentStamps l p window ≤ s .n
       → windowSum s clock window (blockFor s clock es p) ≡ volumeOf (ofWindow clock p window) es
   unfolding halfFed
@@ -151,4 +151,4 @@ module _ (l : Ledger) (good : Good l) (p : Entry → Bool) (window : ℕ) where
 
   -- a window of at most n has no more stamps than ticks, since none is past the clock
   pub short-few : window ≤ s .n → differentStamps l p window ≤ s .n
-  short-few h = omega (arith, count-most (λ t. occurs t stamps) start window, along window (λ e past counted. omega arith))
+  short-few w = omega (arith, count-most (λ t. occurs t stamps) start window, along window (λ e past h. omega arith))

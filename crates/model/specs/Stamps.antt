@@ -19,7 +19,7 @@ abbrev pub occurs : ℕ → List ℕ → Bool  -- x is one of these numbers
 occurs x [] = false
 occurs x (y ∷ ys) = eqb x y || occurs x ys
 
-abbrev pub different : List ℕ → ℕ  -- how many different numbers these are: each counts only where it occurs for the last time
+abbrev pub different : List ℕ → ℕ  -- how many different numbers these are: each counts only at its last place in the list
 different [] = 0
 different (x ∷ xs) = cond (occurs x xs) 0 1 + different xs
 

@@ -46,7 +46,7 @@ count-later p (suc d) i c =
 
 -- ---- different numbers
 
--- the numbers that occur in a list, of which one more is x
+-- one number more, x, in front of a list: the count rises by 1, unless x occurs already
 module _ (x : ℕ) (xs : List ℕ) where
   count-more : (i c : ℕ) → i ≤ x → x < i + c → countFrom (λ t. occurs t (x ∷ xs)) i c ≡ cond (occurs x xs) 0 1 + countFrom (λ t. occurs t xs) i c
   count-more i zero low high = absurd (omega arith)

@@ -104,6 +104,7 @@ module _ (k a : ℕ) where
   starts b bs cs r s same =
       head-shows b bs cs (r .0 .some) (rising-above k (suc (b .offset)) (suc (b .offset)) cs (le-refl _) s) (λ t h. same t (omega (arith, r .0 .low)))
 
+  -- rising buckets also rise from where their first one starts, or from any offset before it
   pub raised-to : (m : ℕ) (d : Bucket) (cs : List Bucket) → m ≤ d .offset → Rising k a (d ∷ cs) → Rising k m (d ∷ cs)
   raised-to m d cs h s = (record { low = h; high = s .0 .high; one = s .0 .one; some = s .0 .some }, s .1)
 

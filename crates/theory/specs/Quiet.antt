@@ -1,5 +1,5 @@
--- If few different offsets from a on bear volume, level 0 still holds a, so that its sum from there on is exact. Rests on level 0 keeping the n
--- highest offsets. Assumes nothing.
+-- If at most n different offsets from a on had a delivery, F of level 0 is at most a, so its sum from there on is exact. Rests on level 0 keeping
+-- the n highest offsets. Assumes nothing.
 use mathlib.Core.Bool.{Bool, true, false}
 use mathlib.Core.Logic.{⊎-elim}
 use mathlib.Core.Path.{_≡_, refl, subst}

@@ -102,8 +102,8 @@ fn heading(observed: &[(Order, Observed)]) -> String {
          Each panel is an order in which deliveries arrive, each dot one answered question or \
          several.</text>\n\
          <text x=\"20\" y=\"79\" font-size=\"13\">{exact} of all answers to windows with a delivery \
-         are exact. {proved} are proved to be: at most n different stamps lie from the opening on in \
-         its interval.</text>\n"
+         are exact. {proved} are proved to be: at most n different stamps from the opening to its \
+         interval's end.</text>\n"
     )
 }
 
@@ -132,7 +132,7 @@ fn legend() -> String {
          <circle cx=\"353\" cy=\"125\" r=\"5\" fill=\"none\" stroke=\"#222\" stroke-width=\"1.5\"/>\
          <text x=\"366\" y=\"129\" font-size=\"13\">greatest error of the order</text>\
          <rect x=\"580\" y=\"119\" width=\"30\" height=\"12\" fill=\"{EXACT_COLOUR}\"/>\
-         <text x=\"618\" y=\"129\" font-size=\"13\">exact, not proved to be</text>\
+         <text x=\"618\" y=\"129\" font-size=\"13\">found exact, not proved to be</text>\
          <rect x=\"818\" y=\"119\" width=\"30\" height=\"12\" fill=\"{PROVED_COLOUR}\"/>\
          <text x=\"856\" y=\"129\" font-size=\"13\">proved exact</text>"
     );
@@ -147,7 +147,7 @@ fn error_y(error: f64) -> f64 {
 fn axes() -> String {
     let mut axes = String::new();
     for (top, colour, text) in [
-        (EXACT_ROW, EXACT_COLOUR, "exact"),
+        (EXACT_ROW, EXACT_COLOUR, "found exact"),
         (PROVED_ROW, PROVED_COLOUR, "proved exact"),
     ] {
         let _ = writeln!(

@@ -1,6 +1,6 @@
 //! The greatest error of each order, its exact answers and those that are proved to be exact, as text.
 
-use crate::observe::Observed;
+use crate::observe::{Observed, SITE};
 use crate::order::{Kind, Order};
 
 /// How many of some answers are exact, and proved to be. Answers to windows without a delivery, which are
@@ -11,6 +11,8 @@ pub struct Share {
     pub exact: usize,
     /// Those that are proved to be exact.
     pub proved: usize,
+    /// Those of the proved ones whose window is above n.
+    pub wide: usize,
     /// All of them.
     pub answers: usize,
 }
@@ -21,12 +23,15 @@ impl Share {
         let mut share = Share {
             exact: 0,
             proved: 0,
+            wide: 0,
             answers: 0,
         };
         for observation in observed.into_iter().flat_map(Observed::telling) {
             share.answers += 1;
             share.exact += usize::from(observation.is_exact());
+            let is_wide = observation.window > SITE[1];
             share.proved += usize::from(observation.proved_exact);
+            share.wide += usize::from(observation.proved_exact && is_wide);
         }
         share
     }
@@ -65,7 +70,8 @@ pub fn row(order: &Order, observed: &Observed) -> String {
     }
 }
 
-/// The shares of each kind of order, and of all orders.
+/// The shares of each kind of order and of all orders, and how many of the proved answers have a window above
+/// n.
 pub fn shares(all: &[(Order, Observed)]) -> String {
     let of = |included: &dyn Fn(&Order) -> bool| {
         let chosen = all.iter().filter(|(order, _)| included(order));
@@ -76,7 +82,9 @@ pub fn shares(all: &[(Order, Observed)]) -> String {
     for kind in Kind::ALL {
         shares += &row(kind.name(), of(&|order| order.kind == kind));
     }
-    shares + &row("all orders", of(&|_| true))
+    let wide = Share::of(all.iter().map(|(_, observed)| observed)).wide;
+    shares += &row("all orders", of(&|_| true));
+    shares + &format!("proved exact with a window above n: {wide}\n")
 }
 
 fn counts(share: Share) -> String {

@@ -75,7 +75,7 @@ fn answers_that_are_proved_to_be_exact() {
     assert_eq!(observed.fault(), None);
 }
 
-/// Most of the proved ones have wider windows than n, and some answers are exact without a proof.
+/// Some proved ones have windows above n, some answers are exact without a proof, and some are off.
 #[test]
 fn a_forecourt_shows_answers_of_every_kind() {
     let mut order = forecourt::prompt(9);
@@ -213,4 +213,5 @@ fn exact_answers_are_shared_out_by_kind() {
     assert_eq!(found(Kind::Random.name()), "1 1, 100 % 0, 0 %");
     assert_eq!(found(Kind::Pattern.name()), "0 0, 0 % 0, 0 %");
     assert_eq!(found("all orders"), "5 3, 60 % 1, 20 %");
+    assert_eq!(found("proved exact with a window above n:"), "1");
 }

@@ -166,7 +166,7 @@ fn exact_answers_have_two_rows() {
     let svg = svg(&[seen("calm", Kind::Forecourt)]);
     let (labels, panels, _) = areas(&svg);
     let panel = &panels[0];
-    for (row, sum_mark) in [("proved exact", "≤ 10²"), ("exact", "10³")] {
+    for (row, sum_mark) in [("proved exact", "≤ 10²"), ("found exact", "10³")] {
         // The legend has the same words further to the right.
         let is_row = |label: &&Area| label.what == row && label.right <= panel.left;
         let row = labels.iter().find(is_row).expect("a label of the row");

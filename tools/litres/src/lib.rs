@@ -124,8 +124,7 @@ pub fn delivery(book: &mut [u32], grade: u32, stamp: u32, volume: u32) -> Result
 }
 
 /// The book's sum for a grade, in decilitres, over the last `window` ticks, of which the clock's is the
-/// last; 0 for window 0. `include/litres.h` says how near it is to the true sum, and that it is the true sum
-/// for windows of up to n ticks.
+/// last; 0 for window 0. `include/litres.h` says how near it is to the true sum, and where it is the true sum.
 pub fn query(book: &[u32], grade: u32, window: u32) -> Result<u64, Refused> {
     let mut sum = 0;
     // SAFETY: the pointer and the length are of one slice, shared and so not written by anybody

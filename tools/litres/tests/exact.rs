@@ -52,7 +52,7 @@ impl Site {
     }
 
     /// The window that opens at a tick.
-    fn from(&self, opening: u32) -> u32 {
+    fn window_from(&self, opening: u32) -> u32 {
         self.now - opening + 1
     }
 }
@@ -82,10 +82,10 @@ fn a_wide_window_over_a_quiet_stretch() {
     site.feed(TICKS + 500_000, TICKS..TICKS + 2_000);
     assert!(site.is_exact(TICKS));
     for opening in [first - 1, first, first + 1, TICKS - 1_000, TICKS - 1] {
-        assert!(site.is_exact(site.from(opening)), "{opening}");
+        assert!(site.is_exact(site.window_from(opening)), "{opening}");
     }
     // One stamp too many for the windows that open before the first of the n.
     site.feed(site.now, [first - 1]);
     assert!(!site.is_exact(TICKS));
-    assert!(site.is_exact(site.from(first)));
+    assert!(site.is_exact(site.window_from(first)));
 }

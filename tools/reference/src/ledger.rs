@@ -139,7 +139,7 @@ impl Ledger {
 
     /// How many different stamps a grade's deliveries bear from the opening of a window on, in the interval
     /// in which it opens (document 02, request Seven). Window 0 opens nowhere.
-    pub fn opened_stamps(&self, grade: u32, window: u32) -> usize {
+    pub fn different_stamps(&self, grade: u32, window: u32) -> usize {
         let Some(opening) = opening(self.clock, window) else {
             return 0;
         };
@@ -152,9 +152,10 @@ impl Ledger {
         counted.map(|e| e.stamp).collect::<BTreeSet<u32>>().len()
     }
 
-    /// Whether these are at most n, so that document 02, request Seven, promises the exact sum.
+    /// Whether at most n different stamps count for a grade and a window, so that document 02, request Seven,
+    /// promises the exact sum.
     pub fn is_quiet(&self, grade: u32, window: u32) -> bool {
-        self.opened_stamps(grade, window) <= self.shape.n() as usize
+        self.different_stamps(grade, window) <= self.shape.n() as usize
     }
 
     /// Whether a window has at most n ticks, so that document 02, request Seven, promises the exact sum
@@ -168,9 +169,9 @@ impl Ledger {
         self.is_quiet(grade, window) || self.is_short(window)
     }
 
-    /// Whether a book may answer a question of a grade and a window with this sum: only with the exact one
-    /// where that is promised.
-    pub fn admits_sum(&self, grade: u32, window: u32, answer: u64) -> bool {
+    /// Whether document 02, request Seven, lets a book answer a question of a grade and a window with this sum:
+    /// only with the exact one where that is promised.
+    pub fn admits_exact(&self, grade: u32, window: u32, answer: u64) -> bool {
         !self.promises_exact(grade, window) || answer == self.window_sum(grade, window)
     }
 

@@ -123,7 +123,7 @@ impl Run {
             assert_eq!(book, 0);
         }
         assert!(self.ledger.admits(exact, book), "{exact}: {book}");
-        let admitted = self.ledger.admits_sum(grade, window, book);
+        let admitted = self.ledger.admits_exact(grade, window, book);
         assert!(admitted, "{exact}: {book}, window {window}");
         self.check_ground(grade, window, book);
         if shape.n() > shape.k() + 1 {

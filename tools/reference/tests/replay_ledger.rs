@@ -85,9 +85,11 @@ impl List {
     fn note(&mut self, call: Call, [number, sum]: [u32; ANSWER_WORDS]) {
         let ledger: Reply = self.ledger.perform(call, self.words.len());
         assert_eq!(ledger.err().unwrap_or(0), number, "{call:?}");
-        match ledger {
-            Ok(Answer::Sum(exact)) => {
+        match (call, ledger) {
+            (Call::Query { grade, window }, Ok(Answer::Sum(exact))) => {
                 assert!(self.ledger.admits(exact, sum.into()), "{exact}: {sum}");
+                let is_promised = self.ledger.admits_exact(grade, window, sum.into());
+                assert!(is_promised, "{exact}: {sum}");
                 let equal = exact == u64::from(sum);
                 self.seen.exact += usize::from(equal);
                 self.seen.inexact += usize::from(!equal);

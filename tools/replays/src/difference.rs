@@ -170,7 +170,10 @@ impl Display for Difference {
             } => {
                 let [found, expected] = [*found, *expected].map(answer);
                 write!(f, "call {call:?}: {found}, the ledger: {expected}, ")?;
-                write!(f, "with {stamps} stamps from the opening on, n {n}")
+                write!(
+                    f,
+                    "with {stamps} different stamps from the opening on, n = {n}"
+                )
             }
         }
     }

@@ -139,7 +139,7 @@ pub fn check(ledger: &Ledger, expected: Reply, answered: Answered) -> Result<(),
                 call,
                 expected,
                 found,
-                stamps: ledger.opened_stamps(grade, window),
+                stamps: ledger.different_stamps(grade, window),
                 n: ledger.shape().n(),
             }))
         }
@@ -152,7 +152,7 @@ pub fn check(ledger: &Ledger, expected: Reply, answered: Answered) -> Result<(),
 pub fn is_exact_where_promised(ledger: &Ledger, answered: Answered) -> bool {
     match (answered.call, answered.reply) {
         (Call::Query { grade, window }, Ok(Answer::Sum(sum))) => {
-            ledger.admits_sum(grade, window, sum)
+            ledger.admits_exact(grade, window, sum)
         }
         _ => true,
     }

@@ -15,7 +15,7 @@ use crate::desk::{Answered, Outcome};
 use crate::difference::Asked;
 use crate::quiet;
 
-/// A run of so many traces must show every kind of trace, of replay and of answer.
+/// A run of so many traces must show every kind of trace, of replay, of answer and of question.
 pub const TRACES_FOR_ALL: u64 = 4_000;
 
 /// Grounds that were held against the ledger, by whether it has the same sum. Where n is at most k + 1,

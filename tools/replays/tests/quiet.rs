@@ -135,23 +135,28 @@ fn both_kinds(clock: u32, deliveries: &[(u32, u32)], window: u32) -> [Vec<&'stat
 
 #[test]
 fn kinds_of_questions() {
-    let [short, fewer, as_many] = [
-        "a window of at most n",
+    let [short, of_n, fewer, as_many] = [
+        "a window below n",
+        "a window of n",
         "a wider one over fewer than n stamps",
         "a wider one over n stamps",
     ];
-    let [earlier, grades, current] = [
+    let [earlier, grades, current, repeats] = [
         "quiet without stamps before the opening",
         "quiet without other grades' stamps",
         "quiet without the current interval's stamps",
+        "quiet without repeated stamps",
     ];
     type Row<'r> = (u32, &'r [(u32, u32)], u32, &'r [&'r str]);
-    let rows: [Row; 12] = [
+    let rows: [Row; 15] = [
         (7, &[], 0, &[short]),
-        (7, &[(0, 5), (0, 6), (0, 7)], 2, &[short]),
+        (7, &[(0, 5), (0, 6), (0, 7)], 1, &[short]),
+        (7, &[(0, 5), (0, 6), (0, 7)], 2, &[of_n]),
         (7, &[], 3, &[fewer]),
         (7, &[(0, 6)], 8, &[fewer]),
-        (7, &[(0, 6), (0, 7), (0, 6)], 3, &[as_many]),
+        (7, &[(0, 6), (0, 7)], 3, &[as_many]),
+        (7, &[(0, 6), (0, 7), (0, 6)], 3, &[as_many, repeats]),
+        (7, &[(0, 6), (0, 6), (0, 4)], 3, &[fewer]),
         (7, &[(0, 4), (0, 6)], 3, &[fewer]),
         (7, &[(0, 0), (0, 4), (0, 6)], 3, &[fewer, earlier]),
         (7, &[(0, 6), (1, 6), (1, 7)], 3, &[fewer]),
@@ -174,8 +179,8 @@ fn kinds_of_questions() {
     let more = ["over more stamps, exact", "over more stamps, off"];
     assert_eq!(both_kinds(7, &busy, 3), one_more.map(|kind| vec![kind]));
     assert_eq!(both_kinds(7, &busy, 4), more.map(|kind| vec![kind]));
-    let kinds = [&[short, fewer, as_many][..], &one_more, &more];
-    let kinds = [&kinds.concat()[..], &[earlier, grades, current]];
+    let kinds = [&[short, of_n, fewer, as_many][..], &one_more, &more];
+    let kinds = [&kinds.concat()[..], &[earlier, grades, current, repeats]];
     assert_eq!(all(), kinds.concat());
 }
 
@@ -191,7 +196,7 @@ fn an_inexact_sum_in_words() {
         stamps: 2,
         n: 2,
     };
-    let text = "call Query { grade: 0, window: 3 }: = 4, the ledger: = 5, with 2 stamps from the \
-                opening on, n 2";
+    let text = "call Query { grade: 0, window: 3 }: = 4, the ledger: = 5, with 2 different stamps \
+                from the opening on, n = 2";
     assert_eq!(difference.to_string(), text);
 }

@@ -132,7 +132,7 @@ fn legend() -> String {
          <circle cx=\"353\" cy=\"125\" r=\"5\" fill=\"none\" stroke=\"#222\" stroke-width=\"1.5\"/>\
          <text x=\"366\" y=\"129\" font-size=\"13\">greatest error of the order</text>\
          <rect x=\"580\" y=\"119\" width=\"30\" height=\"12\" fill=\"{EXACT_COLOUR}\"/>\
-         <text x=\"618\" y=\"129\" font-size=\"13\">found exact, not proved to be</text>\
+         <text x=\"618\" y=\"129\" font-size=\"13\">found exact, not proved</text>\
          <rect x=\"818\" y=\"119\" width=\"30\" height=\"12\" fill=\"{PROVED_COLOUR}\"/>\
          <text x=\"856\" y=\"129\" font-size=\"13\">proved exact</text>"
     );

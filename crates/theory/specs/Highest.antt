@@ -7,12 +7,12 @@ use mathlib.Core.List.{List, [], _∷_}
 use Prim.Native.Nat.{ℕ, zero, suc, _+_, _^_, _≤_, _<_}
 use native.Mathlib.Nat.{le-refl}
 use native.Mathlib.Omega.{arith}
-use lib.Dec.{leb, eqb}
+use lib.Dec.{leb}
 use lib.ListN.{length}
 use Rattle.model.specs.Level.{Bucket, Level, bucketOf, levelOf, put, evict, unit, insert}
 use Rattle.model.specs.Block.{sumFrom}
 use Rattle.laws.specs.Cond.{by-lt, by-le, by-eq, lt-or-ge}
-use Rattle.laws.specs.SumFrom.{share, more, AtLeast, at-least-less, share-all, share-none, share-suc, share-falls, sumFrom-all, sumFrom-falls}
+use Rattle.laws.specs.SumFrom.{more, AtLeast, at-least-less, share-all, share-suc, share-falls, sumFrom-all, sumFrom-falls}
 use Rattle.laws.specs.Put.{Rising, rising-above, sumFrom-past}
 use Rattle.laws.specs.Unit.{Follows, Tracks, insert-tracks, grow-follows}
 use Rattle.theory.specs.Fed.{Event, fed, counted, Inside, fed-tracks}
@@ -199,39 +199,3 @@ pub fed-order : (k n : ℕ) → 2 ≤ n → (es ds : List Event) → Inside k es
 fed-order k n two es ds he hd same =
     highest-one (fed k n 0 es) (fed k n 0 ds) (fed-highest k n two es he)
     (subst (λ (c : ℕ → ℕ). Highest k n c (fed k n 0 ds)) (sym (fun-ext same)) (fed-highest k n two ds hd))
-
--- ---- offset by offset
-
--- the weight at offset t alone, and the volume delivered there
-abbrev pub weightAt : ℕ → List Bucket → ℕ
-weightAt t [] = 0
-weightAt t (b ∷ bs) = cond (eqb (b .offset) t) (b .weight) 0 + weightAt t bs
-
-abbrev pub volumeAt : ℕ → List Event → ℕ
-volumeAt t [] = 0
-volumeAt t (e ∷ es) = cond (eqb (e .at) t) (e .vol) 0 + volumeAt t es
-
-share-at : (x v t : ℕ) → share x v t ≡ cond (eqb x t) v 0 + share x v (suc t)
-share-at x v t =
-    by-eq x t (λ z. share x v t ≡ z + share x v (suc t))
-    (λ same. omega (arith, share-all x v t (omega arith), share-none x v (suc t) (omega arith)))
-    (λ other. ⊎-elim
-    (λ (below : x < t). omega (arith, share-none x v t below, share-none x v (suc t) (omega arith)))
-    (λ (above : t ≤ x). omega (arith, share-all x v t above, share-all x v (suc t) (omega arith)))
-    (lt-or-ge x t))
-
-sumFrom-at : (t : ℕ) (bs : List Bucket) → sumFrom t bs ≡ weightAt t bs + sumFrom (suc t) bs
-sumFrom-at t [] = refl
-sumFrom-at t (b ∷ bs) = omega (arith, share-at (b .offset) (b .weight) t, sumFrom-at t bs)
-
-pub counted-at : (t : ℕ) (es : List Event) → counted es t ≡ volumeAt t es + counted es (suc t)
-counted-at t [] = refl
-counted-at t (e ∷ es) = omega (arith, share-at (e .at) (e .vol) t, counted-at t es)
-
--- at every offset from its first on, level 0 has what was delivered there
-pub fed-weight-at : (k n : ℕ) → 2 ≤ n → (es : List Event) → Inside k es
-    → (t : ℕ) → fed k n 0 es .first ≤ t → weightAt t (fed k n 0 es .buckets) ≡ volumeAt t es
-fed-weight-at k n two es inside t h =
-    let bs = fed k n 0 es .buckets in
-    let exact = fed-highest k n two es inside .exact in
-    omega (arith, exact t h, exact (suc t) (omega arith), sumFrom-at t bs, counted-at t es)

@@ -1,13 +1,19 @@
-//! Comparison by running: random scripts of the bench protocol (document 01, "The bench program"),
-//! each answered by a program and by the reference, compared line by line.
+//! Comparison by running, with the second program on the other side: the bench program on random scripts of its
+//! protocol (`bench`), and the static library on books (`books`), on traces and lists of calls (`replays`) and
+//! on merges of two days (`merges`). All draws come from a seed, and a trial depends on the seed and its number
+//! alone.
 
 #![forbid(unsafe_code)]
 #![warn(missing_docs)]
 
-pub mod command;
+pub mod bench;
+pub mod books;
+pub mod desk;
 pub mod difference;
-pub mod hostile;
-pub mod plan;
-pub mod program;
+pub mod implementation;
+pub mod list;
+pub mod merges;
+pub mod options;
+pub mod quiet;
+pub mod replays;
 pub mod run;
-pub mod script;

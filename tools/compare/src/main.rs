@@ -1,68 +1,164 @@
-//! Compares a bench program with the reference on random scripts.
+//! Compares the bench program or the static library with the second program.
 
-use std::io;
+use std::ffi::OsString;
 use std::path::PathBuf;
 use std::process::{self, ExitCode};
 use std::time::Duration;
-use std::{env, fs};
+use std::{env, fs, io};
 
-use compare::command::{Options, USAGE};
-use compare::program::{output_one_by_one, program_output};
-use compare::run::{reference_output, run, Failure, Summary};
-use draw::tally::verdict;
+use compare::bench::plan::Plan;
+use compare::bench::program::{output_one_by_one, program_output};
+use compare::bench::{self, LINES, LINES_ONE_BY_ONE, LINES_PER_SCRIPT};
+use compare::books::BOOKS;
+use compare::implementation::Archive;
+use compare::merges::MERGES;
+use compare::options::{self, Trials, Words};
+use compare::replays::REPLAYS;
+use compare::run::{Comparison, Failure, Summary};
+
+const USAGE: &str = "\
+usage: compare bench PROGRAM [--one-by-one] [--lines N] [--seed S] [--trials N] [--trial I]
+       compare books|replays|merges [--seed S] [--trials N] [--trial I]
+
+bench    gives random scripts of the bench protocol to PROGRAM and to the second program and compares
+         every line
+books    gives books of every kind to the static library and to the second program, a handful of calls
+         on each, and compares every answer, the splits of a delivery with it, the ground of a question,
+         and every word
+replays  finds and replays days of traces of every kind on books of every kind, compares every number,
+         part and word, and holds lists of calls and replays against the ledger, with the grounds of
+         their questions, and with the sums that must be exact
+merges   merges days of every kind, judges every number and output, and replays each merged day, of which
+         each record has to meet its own clock
+
+  --seed S      another seed gives other trials (1)
+  --trials N    number of scripts (one for every 400 lines), books (24000), traces (24000) or merges
+                (48000)
+  --trial I     trial I alone, counted from 0, as a failed run names it
+  --one-by-one  gives PROGRAM each line only once it has answered the one before
+  --lines N     lines of all scripts together (40000; one by one 400)";
 
 /// How long a program has for one answer. It needs no more than milliseconds, also on a slow machine,
 /// but others may be busy there.
 const PATIENCE: Duration = Duration::from_secs(20);
 
-fn main() -> ExitCode {
-    options::main(USAGE, Options::read, compare)
+/// What a run is asked to do.
+struct Options {
+    task: Task,
+    trials: Trials,
+    /// Whether it is the usual run, which has to meet everything.
+    is_usual: bool,
 }
 
-fn compare(options: Options) -> ExitCode {
-    let program = |script: &[u8]| {
-        if options.one_by_one {
-            output_one_by_one(&options.program, script, PATIENCE)
-        } else {
-            program_output(&options.program, script)
-        }
-    };
-    match run(options.plan(), reference_output, program) {
-        Ok(summary) => report_summary(&options, &summary),
+enum Task {
+    Bench {
+        program: OsString,
+        one_by_one: bool,
+        lines: u64,
+    },
+    Archive(&'static Comparison),
+}
+
+fn main() -> ExitCode {
+    options::main(USAGE, read, |options| match run(&options) {
+        Ok(summary) => report(&options, &summary),
         Err(failure) => report_failure(&options, &failure),
+    })
+}
+
+fn read(mut words: Words) -> Result<Options, String> {
+    let name = words
+        .subcommand()
+        .ok_or("bench, books, replays or merges is missing")?;
+    if name == "bench" {
+        return read_bench(words);
+    }
+    let comparison = [&BOOKS, &REPLAYS, &MERGES]
+        .into_iter()
+        .find(|one| name == one.name);
+    let comparison = comparison.ok_or(format!("no comparison: {}", name.display()))?;
+    let trials = Trials::read(&mut words, comparison.usual)?;
+    let [] = words.operands([])?;
+    Ok(Options {
+        task: Task::Archive(comparison),
+        is_usual: is_usual(&trials, comparison.usual),
+        trials,
+    })
+}
+
+fn read_bench(mut words: Words) -> Result<Options, String> {
+    let one_by_one = words.flag("--one-by-one");
+    let usual = if one_by_one { LINES_ONE_BY_ONE } else { LINES };
+    let lines = words.number("--lines")?.unwrap_or(usual);
+    let trials = Trials::read(&mut words, (lines / LINES_PER_SCRIPT).max(1))?;
+    let [program] = words.operands(["PROGRAM"])?;
+    let is_usual = lines == LINES && is_usual(&trials, LINES / LINES_PER_SCRIPT);
+    Ok(Options {
+        task: Task::Bench {
+            program,
+            one_by_one,
+            lines,
+        },
+        trials,
+        is_usual,
+    })
+}
+
+/// Whether these are the trials of the usual run. Another seed may meet fewer things by chance.
+fn is_usual(trials: &Trials, usual: u64) -> bool {
+    trials.seed == 1 && trials.numbers == (0..usual)
+}
+
+fn run(Options { task, trials, .. }: &Options) -> Result<Summary, Failure> {
+    let (seed, numbers) = (trials.seed, trials.numbers.clone());
+    match task {
+        Task::Archive(comparison) => comparison.run(&Archive, seed, numbers),
+        Task::Bench {
+            program,
+            one_by_one,
+            lines,
+        } => {
+            let scripts = (0..).zip(Plan::new(seed, *lines, trials.count));
+            let made = scripts.filter(|(number, _)| numbers.contains(number));
+            bench::run(made, |script| {
+                if *one_by_one {
+                    output_one_by_one(program, script, PATIENCE)
+                } else {
+                    program_output(program, script)
+                }
+            })
+        }
     }
 }
 
-fn report_summary(options: &Options, summary: &Summary) -> ExitCode {
-    let (seed, tally) = (options.seed, &summary.tally);
-    let scripts = match summary.scripts {
-        1 => "1 script".to_string(),
-        scripts => format!("{scripts} scripts"),
-    };
-    let how = if options.one_by_one {
-        " one by one"
-    } else {
-        ""
-    };
-    let lines = tally.total();
-    println!("seed {seed}: {scripts}, {lines} lines{how}, all equal; {tally}");
-    verdict(&tally.faults())
+/// Tells what a run met and what is wrong with that.
+fn report(options: &Options, summary: &Summary) -> ExitCode {
+    let (seed, trials) = (options.trials.seed, summary.trials());
+    println!("seed {seed}: {trials} trials, all equal; {summary}");
+    let faults = summary.faults(options.is_usual);
+    for fault in &faults {
+        eprintln!("{fault}");
+    }
+    ExitCode::from(u8::from(!faults.is_empty()))
 }
 
 fn report_failure(options: &Options, failure: &Failure) -> ExitCode {
-    let (seed, number) = (options.seed, failure.number);
-    eprintln!("seed {seed}, script {number}, {}", failure.difference);
-    match keep(options, failure) {
-        Ok(path) => eprintln!("script in: {}", path.display()),
-        Err(error) => eprintln!("the script could not be kept: {error}"),
+    let Failure { number, difference } = failure;
+    let (seed, what, told) = (options.trials.seed, difference.what, &difference.told);
+    eprintln!("seed {seed}, trial {number}: {what:?}\n{told}");
+    if let Some(script) = &difference.script {
+        match keep(seed, *number, script) {
+            Ok(path) => eprintln!("script in: {}", path.display()),
+            Err(error) => eprintln!("the script could not be kept: {error}"),
+        }
     }
     ExitCode::FAILURE
 }
 
-/// Writes the script to a file of its own, also where several runs fail at once.
-fn keep(options: &Options, failure: &Failure) -> io::Result<PathBuf> {
-    let (seed, number, process) = (options.seed, failure.number, process::id());
+/// Writes a script to a file of its own, also where several runs fail at once.
+fn keep(seed: u64, number: u64, script: &[u8]) -> io::Result<PathBuf> {
+    let process = process::id();
     let path = env::temp_dir().join(format!("compare-{seed}-{number}-{process}.txt"));
-    fs::write(&path, &failure.script)?;
+    fs::write(&path, script)?;
     Ok(path)
 }

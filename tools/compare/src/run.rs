@@ -1,85 +1,128 @@
-//! A whole run: every script of a plan through both sides, up to the first difference.
+//! A run of trials, up to the first in which the sides differ, and what it has met.
 
+use std::fmt::{self, Display, Formatter};
+use std::ops::Range;
+
+use draw::random::Random;
 use draw::tally::Tally;
-use reference::protocol::UNREAD;
-use reference::refusal;
 
-use crate::difference::{content, first_difference, lines, Difference};
-use crate::plan::Plan;
+use crate::difference::Difference;
+use crate::implementation::Implementation;
 
-/// A run of so many lines must show every kind of answer.
-pub const LINES_FOR_ALL_KINDS: u64 = 20_000;
+/// A tally of more kinds is told by its total alone.
+const MOST_TOLD: usize = 30;
 
-/// What a run without a difference saw.
+/// What the trials of a run have met, in several tallies.
 #[derive(Clone, Debug, PartialEq, Eq)]
 pub struct Summary {
-    /// Scripts.
-    pub scripts: u64,
-    /// Answers by kind.
-    pub tally: Tally,
+    trials: u64,
+    tallies: Vec<(&'static str, Tally)>,
 }
 
 impl Summary {
-    /// Nothing seen yet. A script can draw every kind of answer but refusal 11: only words that no
-    /// call wrote are an unsound block.
-    pub fn new() -> Summary {
-        let refusals = refusal::CALLS.filter(|number| *number != refusal::BLOCK);
+    /// Nothing met yet. Each tally has a name.
+    pub fn new(tallies: impl Into<Vec<(&'static str, Tally)>>) -> Summary {
         Summary {
-            scripts: 0,
-            tally: Tally::of_answers(refusals, &[UNREAD], LINES_FOR_ALL_KINDS),
+            trials: 0,
+            tallies: tallies.into(),
         }
     }
 
-    /// Counts the answers to a script.
-    pub fn add(&mut self, answers: &[u8]) {
-        self.scripts += 1;
-        for answer in lines(answers).map(content) {
-            self.tally.add_answer(&String::from_utf8_lossy(answer));
+    /// Trials without a difference.
+    pub fn trials(&self) -> u64 {
+        self.trials
+    }
+
+    /// A tally by its name.
+    pub fn tally(&mut self, name: &str) -> &mut Tally {
+        let mut tallies = self.tallies.iter_mut();
+        let named = tallies.find(|(tally, _)| *tally == name);
+        &mut named.unwrap_or_else(|| panic!("no tally of {name}")).1
+    }
+
+    /// Counts one thing of a kind.
+    pub fn add(&mut self, name: &str, kind: &str) {
+        self.tally(name).add(kind);
+    }
+
+    /// Counts one thing of several kinds.
+    pub fn add_all<K: AsRef<str>>(&mut self, name: &str, kinds: impl IntoIterator<Item = K>) {
+        let tally = self.tally(name);
+        kinds.into_iter().for_each(|kind| tally.add(kind.as_ref()));
+    }
+
+    /// What cannot occur, and what never occurred in a run that is long enough for it. The usual run must be
+    /// long enough for all.
+    pub fn faults(&self, is_usual: bool) -> Vec<String> {
+        let mut faults = Vec::new();
+        for (name, tally) in &self.tallies {
+            let short = (is_usual && !tally.is_enough()).then(|| "too few".to_string());
+            let all = tally.faults().into_iter().chain(short);
+            faults.extend(all.map(|fault| format!("{name}: {fault}")));
         }
+        faults
     }
 }
 
-impl Default for Summary {
-    fn default() -> Summary {
-        Summary::new()
+impl Display for Summary {
+    fn fmt(&self, f: &mut Formatter<'_>) -> fmt::Result {
+        let told = self.tallies.iter().map(|(name, tally)| {
+            let total = tally.total();
+            match tally.kinds() {
+                kinds if kinds > MOST_TOLD => format!("{name} {total} ({kinds} kinds)"),
+                _ => format!("{name} {total} ({tally})"),
+            }
+        });
+        f.write_str(&told.collect::<Vec<_>>().join("; "))
     }
 }
 
-/// The script on which the two sides differ.
+/// The trial in which the sides differ.
 #[derive(Clone, Debug, PartialEq, Eq)]
 pub struct Failure {
-    /// The script, counted from 1.
+    /// The trial, counted from 0.
     pub number: u64,
-    /// Its bytes.
-    pub script: Vec<u8>,
-    /// Its first line with different answers.
+    /// What differs.
     pub difference: Difference,
 }
 
-/// Gives each script to both sides and compares every line of their outputs.
-pub fn run(
-    plan: Plan,
-    reference: impl Fn(&[u8]) -> Vec<u8>,
-    program: impl Fn(&[u8]) -> Vec<u8>,
-) -> Result<Summary, Box<Failure>> {
-    let mut summary = Summary::new();
-    for script in plan {
-        let (ours, theirs) = (reference(&script), program(&script));
-        if let Some(difference) = first_difference(&script, &ours, &theirs) {
-            return Err(Box::new(Failure {
-                number: summary.scripts + 1,
-                script,
-                difference,
-            }));
-        }
-        summary.add(&ours);
+/// Makes numbered trials, each of something that was drawn for it.
+pub fn run<T>(
+    mut summary: Summary,
+    trials: impl Iterator<Item = (u64, T)>,
+    mut trial: impl FnMut(T, &mut Summary) -> Result<(), Difference>,
+) -> Result<Summary, Failure> {
+    for (number, drawn) in trials {
+        let result = trial(drawn, &mut summary);
+        result.map_err(|difference| Failure { number, difference })?;
+        summary.trials += 1;
     }
     Ok(summary)
 }
 
-/// The reference's output for a script.
-pub fn reference_output(script: &[u8]) -> Vec<u8> {
-    let mut output = Vec::new();
-    reference::protocol::run(script, &mut output).expect("a vector takes every byte");
-    output
+/// A comparison of an implementation with the second program.
+pub struct Comparison {
+    /// Its name.
+    pub name: &'static str,
+    /// Trials of a usual run.
+    pub usual: u64,
+    /// What a run has to meet.
+    pub summary: fn() -> Summary,
+    /// A trial of this number.
+    pub trial: fn(&dyn Implementation, &mut Random, u64, &mut Summary) -> Result<(), Difference>,
+}
+
+impl Comparison {
+    /// The trials of these numbers. A trial depends on the seed and its number alone.
+    pub fn run(
+        &self,
+        implementation: &dyn Implementation,
+        seed: u64,
+        numbers: Range<u64>,
+    ) -> Result<Summary, Failure> {
+        let trials = numbers.map(|number| (number, (number, Random::of_trial(seed, number))));
+        run((self.summary)(), trials, |(number, mut random), summary| {
+            (self.trial)(implementation, &mut random, number, summary)
+        })
+    }
 }

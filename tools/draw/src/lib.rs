@@ -17,6 +17,5 @@ pub mod shapes;
 pub mod sound;
 pub mod tally;
 pub mod trace;
-pub mod trial;
 pub mod view;
 pub mod wrapped;

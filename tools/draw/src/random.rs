@@ -1,6 +1,7 @@
 //! A small deterministic random generator (splitmix64).
 
 /// A generator; equal seeds give equal draws.
+#[derive(Clone)]
 pub struct Random {
     state: u64,
 }

@@ -2,7 +2,6 @@
 
 use std::collections::BTreeMap;
 use std::fmt::{self, Display, Formatter};
-use std::process::ExitCode;
 
 use reference::calls::{Answer, Reply};
 use reference::protocol;
@@ -79,11 +78,21 @@ impl Tally {
     pub fn faults(&self) -> Vec<String> {
         let unexpected = self.unexpected().map(|kind| format!("unexpected: {kind}"));
         let mut faults: Vec<String> = unexpected.collect();
-        if self.total() >= self.enough {
+        if self.is_enough() {
             let missing = self.expected.iter().filter(|kind| self.count(kind) == 0);
             faults.extend(missing.map(|kind| format!("never occurred: {kind}")));
         }
         faults
+    }
+
+    /// Whether so much was counted that each kind must have been shown.
+    pub fn is_enough(&self) -> bool {
+        self.total() >= self.enough
+    }
+
+    /// How many kinds are expected.
+    pub fn kinds(&self) -> usize {
+        self.expected.len()
     }
 
     fn unexpected(&self) -> impl Iterator<Item = &String> {
@@ -98,36 +107,6 @@ impl Display for Tally {
         let kinds = self.expected.iter().chain(self.unexpected());
         let counts: Vec<String> = kinds.map(|k| format!("{k}: {}", self.count(k))).collect();
         write!(f, "{}", counts.join(", "))
-    }
-}
-
-/// Tells what a run saw and what is wrong with that, or where it failed; its exit status.
-pub fn report<S: Display>(
-    seed: u64,
-    result: Result<S, impl Display>,
-    faults: impl FnOnce(&S) -> Vec<String>,
-) -> ExitCode {
-    match result {
-        Ok(summary) => {
-            println!("seed {seed}: {summary}");
-            verdict(&faults(&summary))
-        }
-        Err(failure) => {
-            eprintln!("{failure}");
-            ExitCode::FAILURE
-        }
-    }
-}
-
-/// Tells the faults of a run; its exit status.
-pub fn verdict(faults: &[String]) -> ExitCode {
-    for fault in faults {
-        eprintln!("{fault}");
-    }
-    if faults.is_empty() {
-        ExitCode::SUCCESS
-    } else {
-        ExitCode::FAILURE
     }
 }
 

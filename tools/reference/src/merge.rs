@@ -51,6 +51,22 @@ pub fn judge(named: [Named<'_>; 2], room: usize) -> Result<[&[u32]; 2], u32> {
     Ok(days)
 }
 
+/// Writes one of the merged days, unless that is refused: at an equal clock all of the first day's records before
+/// those of the second.
+pub fn merge(named: [Named; 2], output: &mut [u32]) -> Result<(), u32> {
+    let days = judge(named, output.len())?;
+    let mut all = Vec::new();
+    for day in days {
+        let clocks = home_clocks(day).expect("a day in order");
+        all.extend(clocks.into_iter().zip(records(day)));
+    }
+    // Where clocks are equal, the order stays.
+    all.sort_by_key(|(clock, _)| *clock);
+    let words = all.into_iter().flat_map(|(_, record)| record);
+    output.iter_mut().zip(words).for_each(|(to, word)| *to = *word);
+    Ok(())
+}
+
 /// How many words two days have together.
 pub fn length(days: [&[u32]; 2]) -> usize {
     days.iter().map(|day| day.len()).sum()

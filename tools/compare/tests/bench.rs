@@ -1,0 +1,258 @@
+//! The comparison of scripts: equal sides pass, a difference is found where it is, and a child process that does
+//! not answer is told. Readers that are wrong in a single byte or number are edits of the proofs.
+
+use std::ffi::OsStr;
+use std::fs;
+use std::process::{Command, Output};
+use std::time::Duration;
+
+use compare::bench::plan::Plan;
+use compare::bench::program::{output_one_by_one, program_output};
+use compare::bench::{first_difference, lines, output, run, usual_plan, LINES};
+use compare::run::Failure;
+
+fn failure(program: impl Fn(&[u8]) -> Vec<u8>) -> Option<Failure> {
+    run(usual_plan(), program).err()
+}
+
+#[test]
+fn the_second_program_equals_itself_and_meets_everything() {
+    let summary = run(usual_plan(), output).unwrap();
+    assert_eq!(summary.faults(true), Vec::<String>::new());
+    let long = (0..).zip(Plan::new(1, LINES / 2, 1));
+    let mut summary = run(long, output).unwrap();
+    assert_eq!(summary.tally("lines").faults(), Vec::<String>::new());
+}
+
+#[test]
+fn a_plan_keeps_to_its_numbers() {
+    for (asked, scripts) in [(0, 1), (0, 5), (1, 3), (999, 1), (1_000, 7), (50, 200)] {
+        let all = |seed| Plan::new(seed, asked, scripts).collect::<Vec<_>>();
+        assert_eq!(all(5), all(5));
+        assert!(asked < 50 || all(5) != all(6));
+        assert_eq!(all(5).len(), scripts as usize);
+        let written: usize = all(5).iter().map(|script| lines(script).count()).sum();
+        assert_eq!(written, asked as usize);
+    }
+}
+
+#[test]
+fn some_scripts_are_empty_and_some_end_without_a_newline() {
+    let scripts: Vec<_> = usual_plan().map(|(_, script)| script).collect();
+    let count = |is: fn(&[u8]) -> bool| scripts.iter().filter(|script| is(script)).count();
+    let (empty, ended) = (count(<[u8]>::is_empty), count(|s| s.ends_with(b"\n")));
+    assert!(empty >= 3, "{empty}");
+    assert!(ended >= scripts.len() / 3, "{ended}");
+    assert!(
+        scripts.len() - ended - empty >= scripts.len() / 6,
+        "{ended}, {empty}"
+    );
+}
+
+/// The output with a line replaced.
+fn replaced(output: &[u8], number: usize, answer: &[u8]) -> Vec<u8> {
+    let mut answers: Vec<&[u8]> = lines(output).collect();
+    if let Some(place) = answers.get_mut(number) {
+        *place = answer;
+    }
+    answers.concat()
+}
+
+#[test]
+fn a_changed_answer_is_found_where_it_is() {
+    let wrong = |script: &[u8]| replaced(&output(script), 300, b"refused 13\n");
+    let Failure { number, difference } = failure(wrong).unwrap();
+    let (first, script) = usual_plan()
+        .find(|(_, script)| lines(script).count() > 300)
+        .unwrap();
+    assert_eq!(number, first);
+    let nth = |text: &[u8]| {
+        format!(
+            "{:?}",
+            String::from_utf8_lossy(lines(text).nth(300).unwrap())
+        )
+    };
+    let (input, right) = (nth(&script), nth(&output(&script)));
+    let told = format!("line 300\ninput:   {input}\nexpected {right}\nprogram: \"refused 13\\n\"");
+    assert_eq!(difference.told, told);
+    assert_eq!(difference.script, Some(script));
+}
+
+#[test]
+fn every_kind_of_changed_output_is_a_difference() {
+    for (output, line) in [
+        ("ok\n= 1\n", 1),
+        ("ok\n= 00\n", 1),
+        ("ok\n= 0 \n", 1),
+        ("OK\n= 0\n", 0),
+        ("ok\r\n= 0\n", 0),
+        ("ok\n\n= 0\n", 1),
+        ("ok\n= 0", 1),
+        ("ok\n", 1),
+        ("", 0),
+        ("ok\n= 0\n\n", 2),
+        ("ok\n= 0\nok\n", 2),
+    ] {
+        let found = first_difference(b"ok\n= 0\n", output.as_bytes());
+        assert_eq!(found, Some(line), "{output:?}");
+    }
+    assert_eq!(first_difference(b"ok\n= 0\n", b"ok\n= 0\n"), None);
+    assert_eq!(first_difference(b"", b""), None);
+    assert_eq!(first_difference(b"", b"\n"), Some(0));
+}
+
+/// What lies below the proofs: how a program's input comes to its reader.
+#[test]
+fn programs_that_cut_their_input_are_caught() {
+    let parted = |line: &[u8]| line.chunks(1 << 16).collect::<Vec<_>>().join(&b'\n');
+    let in_chunks = |script: &[u8]| output(&lines(script).map(parted).collect::<Vec<_>>().concat());
+    assert!(failure(in_chunks).is_some());
+    let of_one_chunk = |script: &[u8]| output(&script[..script.len().min(1 << 16)]);
+    assert!(failure(of_one_chunk).is_some());
+}
+
+#[test]
+fn large_scripts_pass_through_a_child() {
+    // More than both pipes hold, so that writing before reading would never end.
+    let script = b"d 0 0 1\n".repeat(1 << 17);
+    assert!(program_output(OsStr::new("cat"), &script) == script);
+    assert_eq!(program_output(OsStr::new("cat"), b""), b"");
+}
+
+/// Long enough for a program that answers, short enough to wait for one that does not.
+const LONG: Duration = Duration::from_secs(20);
+const SHORT: Duration = Duration::from_millis(300);
+
+#[test]
+fn lines_pass_one_by_one_through_a_child() {
+    let cat = |script: &[u8]| output_one_by_one(OsStr::new("cat"), script, LONG);
+    for script in [&b""[..], b"\n", b"a\n\nb", &b"d 0 0 1\n".repeat(500)] {
+        assert!(cat(script) == script);
+    }
+    // Lines that no pipe holds.
+    let long = [b"d 0 0 1".repeat(1 << 15), b"q".repeat(1 << 17)].join(&b'\n');
+    assert!(cat(&long) == long);
+}
+
+#[test]
+fn a_child_that_fails_is_told() {
+    let script = b"m 2 2 4 1\n".repeat(1 << 16);
+    for (program, told) in [
+        ("true", ""),
+        ("false", "(program ended with "),
+        ("./no-such-program", "(program could not be run: "),
+    ] {
+        let program = OsStr::new(program);
+        for output in [
+            program_output(program, &script),
+            output_one_by_one(program, b"a\nb\n", LONG),
+        ] {
+            assert!(output.starts_with(told.as_bytes()), "{program:?}");
+            assert_eq!(output.is_empty(), told.is_empty(), "{program:?}");
+        }
+    }
+}
+
+#[test]
+fn a_child_without_an_answer_or_an_end_is_told() {
+    let output = |program: &str, script: &[u8], patience| {
+        let output = output_one_by_one(OsStr::new(program), script, patience);
+        String::from_utf8(output).unwrap()
+    };
+    // It prints what it has read, all of it after the end of the input.
+    assert_eq!(
+        output("tac", b"ok\nok\n", SHORT),
+        "(no answer within 300ms)\n"
+    );
+    // A single line without its newline is the end of the input as well.
+    assert_eq!(output("tac", b"ok", LONG), "ok");
+    let endless = output("yes", b"a\n", LONG);
+    assert_eq!(endless, "y\ny\n(an answer to no line)\n");
+    let idle = script_file("idle", "exec sleep 60");
+    let long = b"d".repeat(1 << 20);
+    assert_eq!(output(&idle, &long, SHORT), "(no answer within 300ms)\n");
+    assert_eq!(output(&idle, b"", SHORT), "(no end within 300ms)\n");
+    // It answers and closes its output, but stays.
+    let stays = script_file("stays", "read line; echo ok; exec sleep 60 >&-");
+    let seconds = Duration::from_secs(3);
+    assert_eq!(output(&stays, b"a\n", seconds), "ok\n(no end within 3s)\n");
+}
+
+/// A program of the shell, among the files of the build. Another process writes it, because a file
+/// that a child of this one may still have open cannot be run.
+fn script_file(name: &str, commands: &str) -> String {
+    let path = format!("{}/{name}", env!("CARGO_TARGET_TMPDIR"));
+    let write = r#"printf '#!/bin/sh\n%s\n' "$1" > "$0" && chmod 755 "$0""#;
+    let arguments = ["-c", write, &path, commands];
+    let status = Command::new("sh").args(arguments).status().unwrap();
+    assert!(status.success());
+    path
+}
+
+/// Runs the program, with its temporary files among those of the build. It gives the exit status and what
+/// it told.
+fn compare(arguments: &str) -> (Option<i32>, String) {
+    let command = Command::new(env!("CARGO_BIN_EXE_compare"))
+        .args(arguments.split_whitespace())
+        .env("TMPDIR", env!("CARGO_TARGET_TMPDIR"))
+        .output();
+    let Output {
+        status,
+        stdout,
+        stderr,
+    } = command.unwrap();
+    let told = String::from_utf8([stdout, stderr].concat()).unwrap();
+    (status.code(), told)
+}
+
+#[test]
+fn a_difference_is_told_and_its_script_kept() {
+    for arguments in ["--lines 500 --trials 1", "--one-by-one", "--trial 3"] {
+        let (status, told) = compare(&format!("bench cat {arguments}"));
+        assert_eq!(status, Some(1));
+        let number = if arguments == "--trial 3" { 3 } else { 0 };
+        assert!(told.starts_with(&format!("seed 1, trial {number}: Line\nline 0\ninput: ")));
+        let path = told.lines().last().unwrap().strip_prefix("script in: ");
+        let kept = fs::read(path.unwrap()).unwrap();
+        fs::remove_file(path.unwrap()).unwrap();
+        let first = lines(&kept).next().unwrap().escape_ascii().to_string();
+        assert!(told.contains(&format!("input:   \"{first}\"\n")), "{told}");
+    }
+}
+
+#[test]
+fn success_is_one_line() {
+    // Empty scripts are the only ones to which `true` has the right answers.
+    for arguments in [
+        "bench true --lines 0 --trials 3",
+        "bench true --one-by-one --lines 0 --trials 3",
+        "books --trials 3",
+        "replays --seed 2 --trials 3",
+        "merges --trials 3",
+    ] {
+        let (status, told) = compare(arguments);
+        assert_eq!(status, Some(0), "{told}");
+        assert!(told.contains(": 3 trials, all equal; "), "{told}");
+        assert_eq!(told.lines().count(), 1);
+    }
+}
+
+#[test]
+fn wrong_usage_is_told() {
+    for arguments in [
+        "",
+        "bench",
+        "bench a b",
+        "bench a --other",
+        "bench a --trials 0",
+        "bench a --lines -1",
+        "book",
+        "books --lines 3",
+        "books 7",
+    ] {
+        let (status, told) = compare(arguments);
+        assert_eq!(status, Some(2), "{arguments}");
+        assert!(told.contains("\n\nusage: compare bench PROGRAM"), "{told}");
+    }
+    assert_eq!(compare("--help").0, Some(0));
+}

@@ -3,7 +3,7 @@
 use std::ffi::OsStr;
 use std::path::PathBuf;
 
-use options::Words;
+use compare::options::Words;
 
 /// How the program is called.
 pub const USAGE: &str = "\

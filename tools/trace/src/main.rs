@@ -13,7 +13,7 @@ use trace::merge::merge;
 use trace::print::{print, words};
 
 fn main() -> ExitCode {
-    options::main(USAGE, Command::read, |command| match run(command) {
+    compare::options::main(USAGE, Command::read, |command| match run(command) {
         Ok(()) => ExitCode::SUCCESS,
         Err(trouble) => {
             eprintln!("{trouble}");

@@ -92,6 +92,9 @@ fn read_bench(mut words: Words) -> Result<Options, String> {
     let lines = words.number("--lines")?.unwrap_or(usual);
     let trials = Trials::read(&mut words, (lines / LINES_PER_SCRIPT).max(1))?;
     let [program] = words.operands(["PROGRAM"])?;
+    if trials.numbers.end > trials.count {
+        return Err(format!("there are only {} scripts", trials.count));
+    }
     let is_usual = lines == LINES && is_usual(&trials, LINES / LINES_PER_SCRIPT);
     Ok(Options {
         task: Task::Bench {

@@ -9,11 +9,6 @@ use std::time::Duration;
 use compare::bench::plan::Plan;
 use compare::bench::program::{output_one_by_one, program_output};
 use compare::bench::{first_difference, lines, output, run, usual_plan, LINES};
-use compare::run::Failure;
-
-fn failure(program: impl Fn(&[u8]) -> Vec<u8>) -> Option<Failure> {
-    run(usual_plan(), program).err()
-}
 
 #[test]
 fn the_second_program_equals_itself_and_meets_everything() {
@@ -49,35 +44,6 @@ fn some_scripts_are_empty_and_some_end_without_a_newline() {
     );
 }
 
-/// The output with a line replaced.
-fn replaced(output: &[u8], number: usize, answer: &[u8]) -> Vec<u8> {
-    let mut answers: Vec<&[u8]> = lines(output).collect();
-    if let Some(place) = answers.get_mut(number) {
-        *place = answer;
-    }
-    answers.concat()
-}
-
-#[test]
-fn a_changed_answer_is_found_where_it_is() {
-    let wrong = |script: &[u8]| replaced(&output(script), 300, b"refused 13\n");
-    let Failure { number, difference } = failure(wrong).unwrap();
-    let (first, script) = usual_plan()
-        .find(|(_, script)| lines(script).count() > 300)
-        .unwrap();
-    assert_eq!(number, first);
-    let nth = |text: &[u8]| {
-        format!(
-            "{:?}",
-            String::from_utf8_lossy(lines(text).nth(300).unwrap())
-        )
-    };
-    let (input, right) = (nth(&script), nth(&output(&script)));
-    let told = format!("line 300\ninput:   {input}\nexpected {right}\nprogram: \"refused 13\\n\"");
-    assert_eq!(difference.told, told);
-    assert_eq!(difference.script, Some(script));
-}
-
 #[test]
 fn every_kind_of_changed_output_is_a_difference() {
     for (output, line) in [
@@ -106,9 +72,9 @@ fn every_kind_of_changed_output_is_a_difference() {
 fn programs_that_cut_their_input_are_caught() {
     let parted = |line: &[u8]| line.chunks(1 << 16).collect::<Vec<_>>().join(&b'\n');
     let in_chunks = |script: &[u8]| output(&lines(script).map(parted).collect::<Vec<_>>().concat());
-    assert!(failure(in_chunks).is_some());
+    assert!(run(usual_plan(), in_chunks).is_err());
     let of_one_chunk = |script: &[u8]| output(&script[..script.len().min(1 << 16)]);
-    assert!(failure(of_one_chunk).is_some());
+    assert!(run(usual_plan(), of_one_chunk).is_err());
 }
 
 #[test]
@@ -245,6 +211,7 @@ fn wrong_usage_is_told() {
         "bench a b",
         "bench a --other",
         "bench a --trials 0",
+        "bench a --trial 100",
         "bench a --lines -1",
         "book",
         "books --lines 3",

@@ -86,21 +86,6 @@ fn nothing_changed() {
     }
 }
 
-#[test]
-fn a_trial_depends_on_seed_and_number_alone() {
-    for comparison in [&BOOKS, &REPLAYS, &MERGES] {
-        let one = |seed, trial| {
-            comparison
-                .run(&Same, seed, trial..trial + 1)
-                .expect("equal")
-        };
-        let all: Vec<_> = (0..30).map(|trial| one(3, trial)).collect();
-        let again: Vec<_> = (0..30).rev().map(|trial| one(3, trial)).collect();
-        assert!(all.iter().eq(again.iter().rev()));
-        assert!((0..30).any(|trial| one(4, trial) != all[trial as usize]));
-    }
-}
-
 /// Numbers that are right only modulo a power of two.
 #[test]
 fn arithmetic_that_wraps() {

@@ -63,7 +63,10 @@ pub fn merge(named: [Named; 2], output: &mut [u32]) -> Result<(), u32> {
     // Where clocks are equal, the order stays.
     all.sort_by_key(|(clock, _)| *clock);
     let words = all.into_iter().flat_map(|(_, record)| record);
-    output.iter_mut().zip(words).for_each(|(to, word)| *to = *word);
+    output
+        .iter_mut()
+        .zip(words)
+        .for_each(|(to, word)| *to = *word);
     Ok(())
 }
 

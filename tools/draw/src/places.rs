@@ -31,7 +31,7 @@ impl Place {
             grade,
             parity,
             index,
-            total: block + layout::total(parity).start,
+            total: block + layout::BOOK.total(parity).start,
             start: block + shape.level(parity, index).start,
             slots: shape.n() as usize,
         }

@@ -143,5 +143,5 @@ fn as_separate_calls() {
     assert_eq!(replies, expected);
     // The second delivery splits a bucket, of which its words say nothing.
     assert_eq!(replies[2], Ok(Answer::Splits(1)));
-    assert_eq!(answer_words(replies[2]), [0, 0]);
+    assert_eq!(answer_words(replies[2]), [0; ANSWER_WORDS]);
 }

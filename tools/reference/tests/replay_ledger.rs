@@ -6,9 +6,11 @@ use draw::random::Random;
 use draw::shapes::Makes;
 use draw::trace::{self, Drawn};
 use reference::calls::{perform, Answer, Call, Reply};
+use reference::layout::{NUMBER, SUM};
 use reference::ledger::Ledger;
 use reference::replay::{answer_words, calls, replay, ANSWER_WORDS};
 use reference::shape::Shape;
+use reference::words;
 
 /// At most so many days of a trace are replayed, which is more than a week.
 const MOST_DAYS: u32 = 8;
@@ -47,7 +49,7 @@ impl List {
         if random.one_in(2) {
             let call = self.source.call(&self.ledger);
             let reply = perform(&mut self.words, call);
-            self.note(call, answer_words(reply));
+            self.note(call, &answer_words(reply));
             return;
         }
         let shape = self.ledger.shape();
@@ -77,20 +79,21 @@ impl List {
         self.seen.replays += 1;
         let (written, rest) = answers.split_at(ANSWER_WORDS * calls.len());
         assert!(rest.iter().all(|word| *word == 7));
-        for (call, answer) in calls.into_iter().zip(written.as_chunks().0) {
-            self.note(call, *answer);
+        for (call, answer) in calls.into_iter().zip(written.chunks(ANSWER_WORDS)) {
+            self.note(call, answer);
         }
     }
 
-    fn note(&mut self, call: Call, [number, sum]: [u32; ANSWER_WORDS]) {
+    fn note(&mut self, call: Call, answer: &[u32]) {
+        let (number, sum) = (answer[NUMBER], words::number(&answer[SUM..]));
         let ledger: Reply = self.ledger.perform(call, self.words.len());
         assert_eq!(ledger.err().unwrap_or(0), number, "{call:?}");
         match (call, ledger) {
             (Call::Query { grade, window }, Ok(Answer::Sum(exact))) => {
-                assert!(self.ledger.admits(exact, sum.into()), "{exact}: {sum}");
-                let is_promised = self.ledger.admits_exact(grade, window, sum.into());
+                assert!(self.ledger.admits(exact, sum), "{exact}: {sum}");
+                let is_promised = self.ledger.admits_exact(grade, window, sum);
                 assert!(is_promised, "{exact}: {sum}");
-                let equal = exact == u64::from(sum);
+                let equal = exact == sum;
                 self.seen.exact += usize::from(equal);
                 self.seen.inexact += usize::from(!equal);
             }

@@ -8,7 +8,7 @@ use draw::view::Words;
 use reference::calls::{clock, deliver, make, perform, Answer, Call};
 use reference::histogram::{Histogram, Level};
 use reference::protocol::answer;
-use reference::replay::answer_words;
+use reference::replay::{answer_words, ANSWER_WORDS};
 use reference::shape::Shape;
 use reference::words::decode_block;
 
@@ -132,7 +132,7 @@ fn random_runs() {
                 (Call::Delivery { .. }, Ok(Answer::Splits(count))) => {
                     assert!(count <= k * m, "{call:?}: {count}");
                     assert_eq!(answer(reply), "ok");
-                    assert_eq!(answer_words(reply), [0, 0]);
+                    assert_eq!(answer_words(reply), [0; ANSWER_WORDS]);
                     splits += count;
                 }
                 (Call::Delivery { .. }, Err(_)) => refused += 1,

@@ -1,7 +1,10 @@
 //! Merges: the refusals and their order, outputs that are a merged day and outputs that are none, and the
 //! clocks that records meet.
 
-use reference::calls::{clock, make};
+mod common;
+
+use common::{feed, made};
+use draw::shapes::EXAMPLE;
 use reference::merge::{
     home_clocks, judge, length, merged_clocks, met_clocks, sources, Disorder, Named,
 };
@@ -186,10 +189,8 @@ fn clocks_at_home() {
     let clocks = |records: &[Record]| home_clocks(&records.concat());
     assert_eq!(clocks(&[]), Ok(vec![]));
     assert_eq!(clocks(&ODD), Ok(vec![1, 1, 3, 3]));
-    assert_eq!(
-        clocks(&[c(0), c(0), q(1), c(MOST)]),
-        Ok(vec![0, 0, 0, MOST])
-    );
+    let most = clocks(&[c(0), c(0), q(1), c(MOST)]);
+    assert_eq!(most, Ok(vec![0, 0, 0, MOST]));
     assert_eq!(clocks(&[d(0, 1), c(3)]), Err(Disorder::Opening));
     assert_eq!(clocks(&[q(0)]), Err(Disorder::Opening));
     assert_eq!(clocks(&[c(3), d(0, 1), c(2)]), Err(Disorder::Fall));
@@ -276,9 +277,8 @@ fn clocks_that_records_meet() {
     let home = merged_clocks(days, &merged).unwrap();
     assert_eq!(home, [1, 1, 2, 2, 3, 3]);
     let book = |at: u32| {
-        let mut book = vec![0; 90];
-        make(&mut book, 2, 2, 4, 1).unwrap();
-        clock(&mut book, at).unwrap();
+        let mut book = made(EXAMPLE);
+        feed(&mut book, at, &[]);
         book
     };
     assert_eq!(met_clocks(&mut book(0), &merged), home);

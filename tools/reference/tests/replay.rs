@@ -1,14 +1,16 @@
 //! Finding a day and replaying it: the example, the refusals and their order, and what is written.
 
+mod common;
+
+use common::{assert_sums, feed};
+use draw::shapes;
 use draw::trace::EXAMPLE;
-use reference::calls::{clock, deliver, make, perform, query, Answer, Reply};
+use reference::calls::{perform, Answer, Reply};
 use reference::replay::{answer_words, calls, find_day, replay, ANSWER_WORDS};
 use reference::trace::{lay_out, Record};
 
 fn made() -> Vec<u32> {
-    let mut book = vec![0; 90];
-    make(&mut book, 2, 2, 4, 1).unwrap();
-    book
+    common::made(shapes::EXAMPLE)
 }
 
 #[test]
@@ -18,11 +20,8 @@ fn the_example() {
     replay(&mut book, &EXAMPLE, 1, &mut answers).unwrap();
     assert_eq!(answers, [0, 0, 0, 0, 0, 0, 0, 0, 0, 1, 7]);
     let mut expected = made();
-    clock(&mut expected, 3).unwrap();
-    for (stamp, volume) in [(0, 3), (3, 1), (1, 1)] {
-        deliver(&mut expected, 0, stamp, volume).unwrap();
-    }
-    assert_eq!(query(&expected, 0, 2), Ok(1));
+    feed(&mut expected, 3, &[(0, 3), (3, 1), (1, 1)]);
+    assert_sums(&expected, &[(2, 1)]);
     assert_eq!(book, expected);
 }
 
@@ -105,7 +104,7 @@ fn a_refused_record_does_not_stop_the_replay() {
     let numbers: Vec<u32> = answers.iter().step_by(ANSWER_WORDS).copied().collect();
     assert_eq!(numbers, [0, 3, 4, 8, 10, 12, 6, 5, 0]);
     assert!(answers.iter().skip(1).step_by(2).all(|sum| *sum == 0));
-    assert_eq!(query(&book, 0, 2), Ok(16));
+    assert_sums(&book, &[(2, 16)]);
 }
 
 /// Each record is answered as it would be by itself, on a book that no call takes.

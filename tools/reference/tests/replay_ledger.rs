@@ -1,22 +1,23 @@
 //! Lists of calls and replays beside the ledger. A replay counts as its calls: the ledger answers each
 //! under the number that stands in the answer words, and its sum admits the one there.
 
-use draw::calls::{call_of, Source};
-use draw::random::Random;
-use draw::shapes::Makes;
+mod common;
+
+use common::made;
+use draw::calls::Source;
+use draw::shapes::{within, Makes, Numbers};
 use draw::trace::{self, Drawn};
 use reference::calls::{perform, Answer, Call, Reply};
 use reference::layout::{NUMBER, SUM};
 use reference::ledger::Ledger;
 use reference::replay::{answer_words, calls, replay, ANSWER_WORDS};
-use reference::shape::Shape;
 use reference::words;
 
 /// At most so many days of a trace are replayed, which is more than a week.
 const MOST_DAYS: u32 = 8;
 
 /// What a list has met, so that a test can tell that it tested something.
-#[derive(Default)]
+#[derive(Debug, Default)]
 struct Seen {
     replays: usize,
     refused_replays: usize,
@@ -33,11 +34,10 @@ struct List {
 }
 
 impl List {
-    fn new(seed: u64, shape: Shape) -> List {
-        let mut words = vec![0; shape.book_length()];
-        perform(&mut words, call_of(shape.numbers())).unwrap();
+    fn new(seed: u64, numbers: Numbers) -> List {
+        let words = made(numbers);
         List {
-            ledger: Ledger::new(shape),
+            ledger: Ledger::new(within(numbers)),
             source: Source::new(seed, Makes::Length(words.len())),
             words,
             seen: Seen::default(),
@@ -113,18 +113,15 @@ fn lists_of_calls_and_replays() {
         [5, 16, 9, 3],
         [8, 20, 12, 1],
     ];
-    for (seed, [k, n, m, g]) in (1..).zip(shapes) {
-        let mut list = List::new(seed, Shape::new(k, n, m, g).unwrap());
+    for (seed, numbers) in (1..).zip(shapes) {
+        let mut list = List::new(seed, numbers);
         (0..1_500).for_each(|_| list.step());
-        let Seen {
-            replays,
-            refused_replays,
-            refused_records,
-            exact,
-            ..
-        } = list.seen;
-        assert!(replays > 1_000 && refused_replays > 100, "{replays}");
-        assert!(refused_records > 100 && exact > 100, "{exact}");
+        let seen = list.seen;
+        assert!(
+            seen.replays > 1_000 && seen.refused_replays > 100,
+            "{seen:?}"
+        );
+        assert!(seen.refused_records > 100 && seen.exact > 100, "{seen:?}");
     }
 }
 
@@ -133,7 +130,7 @@ fn lists_of_calls_and_replays() {
 fn replayed_sums_are_not_all_exact() {
     let mut inexact = 0;
     for seed in 11..=16 {
-        let mut list = List::new(seed, Shape::new(5, 9, 14, 1).unwrap());
+        let mut list = List::new(seed, [5, 9, 14, 1]);
         list.source.pace.span = 600;
         (0..1_500).for_each(|_| list.step());
         inexact += list.seen.inexact;
@@ -144,10 +141,8 @@ fn replayed_sums_are_not_all_exact() {
 #[test]
 fn the_bound_is_a_bound() {
     // 2 (k + 1) / (n - k - 1) is 6 / 3.
-    let ledger = Ledger::new(Shape::new(2, 6, 9, 1).unwrap());
+    let ledger = Ledger::new(within([2, 6, 9, 1]));
     assert!(ledger.admits(10, 30) && ledger.admits(10, 0));
     assert!(!ledger.admits(10, 31) && !ledger.admits(0, 1));
-    let mut random = Random::new(1);
-    let without = Ledger::new(Shape::new(5, 6, 9, 1).unwrap());
-    assert!(without.admits(random.bits() >> 8, 0));
+    assert!(Ledger::new(within([5, 6, 9, 1])).admits(u64::MAX >> 8, 0));
 }

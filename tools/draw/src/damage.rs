@@ -9,7 +9,7 @@ use crate::random::Random;
 use crate::{sound, wrapped};
 
 /// Changes some words of a book of this shape.
-pub type Change = fn(&mut Random, Shape, &mut [u32]);
+type Change = fn(&mut Random, Shape, &mut [u32]);
 
 /// Each kind of damage with its name.
 pub const KINDS: [(&str, Change); 19] = [

@@ -12,6 +12,7 @@ use reference::window::opening;
 use reference::words::{decode_block, decode_head};
 
 use crate::shapes::{within, EXAMPLE};
+use crate::tally::that_hold;
 
 /// The kinds of a call that a book of this shape answered at this clock, mostly none. A question
 /// counts where it is accepted, a delivery at the oldest stamp that is accepted or at the one before
@@ -22,16 +23,16 @@ pub fn kinds(shape: Shape, clock: u32, call: Call, reply: Reply) -> Vec<String> 
     };
     let names = match (call, reply) {
         (Call::Query { window, .. }, Ok(_)) => windows(shape, clock, window),
-        (Call::Delivery { stamp, .. }, Ok(_)) if stamp == shape.oldest(clock) => {
-            vec!["oldest stamp"]
+        (Call::Delivery { stamp, .. }, Ok(_)) => {
+            that_hold([("oldest stamp", stamp == shape.oldest(clock))])
         }
         // A late stamp is below the clock, so that there is a next one.
-        (Call::Delivery { stamp, .. }, Err(refusal::LATE)) if stamp + 1 == shape.oldest(clock) => {
-            vec!["stamp before the oldest"]
+        (Call::Delivery { stamp, .. }, Err(refusal::LATE)) => {
+            that_hold([("stamp before the oldest", stamp + 1 == shape.oldest(clock))])
         }
         _ => Vec::new(),
     };
-    let kind = |name: &str| format!("{name} at clock {place}");
+    let kind = |name| format!("{name} at clock {place}");
     names.into_iter().map(kind).collect()
 }
 
@@ -56,18 +57,17 @@ fn place(shape: Shape, clock: u32) -> Option<&'static str> {
 }
 
 /// What a window is that has its length from the clock or the shape; it may be several at once.
-fn windows(shape: Shape, clock: u32, window: u32) -> Vec<&'static str> {
-    let (ticks, clock) = (shape.interval_ticks(), u64::from(clock));
-    let lengths = [
-        ("window 0", 0),
-        ("window 1", 1),
-        ("window clock", clock),
-        ("window clock + 1", clock + 1),
-        ("window 2^k - 1", ticks - 1),
-        ("window 2^k", ticks),
-    ];
-    let equal = lengths.into_iter().filter(|(_, l)| *l == window.into());
-    equal.map(|(name, _)| name).collect()
+fn windows(shape: Shape, clock: u32, window: u32) -> Vec<String> {
+    let ticks = shape.interval_ticks();
+    let [window, clock] = [window, clock].map(u64::from);
+    that_hold([
+        ("window 0", window == 0),
+        ("window 1", window == 1),
+        ("window clock", window == clock),
+        ("window clock + 1", window == clock + 1),
+        ("window 2^k - 1", window == ticks - 1),
+        ("window 2^k", window == ticks),
+    ])
 }
 
 /// The kinds of a question that tell its window from a neighbour: a tick less or a tick more gives

@@ -10,11 +10,8 @@ use crate::random::Random;
 /// One level of one half of one grade.
 #[derive(Clone, Copy, Debug)]
 pub struct Place {
-    /// The grade.
     pub grade: u32,
-    /// 0 for the even half, 1 for the odd.
     pub parity: usize,
-    /// The level's index.
     pub index: usize,
     /// The first word of the half's total.
     pub total: usize,
@@ -24,7 +21,6 @@ pub struct Place {
 }
 
 impl Place {
-    /// The level of these numbers.
     pub fn new(shape: Shape, grade: u32, parity: usize, index: usize) -> Place {
         let block = shape.block(grade).start;
         Place {
@@ -49,7 +45,6 @@ impl Place {
         Place::new(shape, grade, random.below(2) as usize, index as usize)
     }
 
-    /// The word of the bucket count.
     pub fn count(self) -> usize {
         self.start + layout::COUNT
     }
@@ -83,7 +78,6 @@ impl Place {
         Some((self.slot(low), self.slot(low + 1)))
     }
 
-    /// All words of the level.
     pub fn words(self) -> Range<usize> {
         self.start..self.slot(self.slots)
     }

@@ -152,9 +152,9 @@ fn makes_are_refused_for_every_reason() {
         let numbers = Makes::UpTo(BUFFER_WORDS).refused(random, within(EXAMPLE));
         let is_long = is_shape(numbers);
         reasons[4] += u32::from(is_long);
-        for place in 0..4 {
+        for (place, right) in EXAMPLE.into_iter().enumerate() {
             let mut mended = numbers;
-            mended[place] = EXAMPLE[place];
+            mended[place] = right;
             reasons[place] += u32::from(!is_long && is_shape(mended));
         }
     }

@@ -365,3 +365,12 @@ fn exhaustive_orders_of_units_are_near_the_truth() {
         run.check_levels();
     }
 }
+
+#[test]
+fn the_bound_is_a_bound() {
+    // 2 (k + 1) / (n - k - 1) is 6 / 3.
+    let ledger = Ledger::new(within([2, 6, 9, 1]));
+    assert!(ledger.admits(10, 30) && ledger.admits(10, 0));
+    assert!(!ledger.admits(10, 31) && !ledger.admits(0, 1));
+    assert!(Ledger::new(within([5, 6, 9, 1])).admits(u64::MAX >> 8, 0));
+}

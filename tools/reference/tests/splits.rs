@@ -2,13 +2,11 @@
 
 mod common;
 
-use common::made;
-use draw::calls::Source;
+use common::{delivery, made};
 use draw::random::Random;
-use draw::shapes::{self, within, Makes};
+use draw::shapes::{self, within};
 use draw::sound;
-use draw::view::Words;
-use reference::calls::{clock, deliver, perform, Answer, Call};
+use reference::calls::{clock, perform, Answer};
 use reference::histogram::{Histogram, Level};
 use reference::protocol::answer;
 use reference::replay::{answer_words, ANSWER_WORDS};
@@ -28,9 +26,6 @@ fn a_volume_that_outlasts_its_bucket() {
     // Level 1 splits at 4, then at 2 more, which evicts the half at offset 1. The last three are
     // ignored: they split nothing.
     assert_eq!(of_levels(within([3, 2, 6, 1]), 1, 9), [0, 2, 1, 0, 0, 0, 0]);
-    let mut words = made([3, 2, 6, 1]);
-    clock(&mut words, 7).unwrap();
-    assert_eq!(deliver(&mut words, 0, 1, 9), Ok(3));
 }
 
 /// The decilitre that reaches the limit splits, also where it is the last.
@@ -109,32 +104,13 @@ fn buckets_gained_by_unit_steps() {
     assert!(splits > 300 && evicting > 100 && most > 3, "{met:?}");
 }
 
-/// Books that calls grow: at most k splits for each level above 0, and what is printed or replayed does
-/// not tell them.
+/// What is printed or replayed does not tell the splits.
 #[test]
-fn random_runs() {
-    let shapes = [[2, 2, 4, 1], [3, 2, 6, 2], [4, 6, 10, 1], [8, 20, 16, 1]];
-    for (seed, numbers) in (1..).zip(shapes) {
-        let shape = within(numbers);
-        let mut source = Source::new(seed, Makes::Same);
-        source.pace.volume = 300;
-        let mut words = made(numbers);
-        let (mut refused, mut splits) = (0, 0);
-        for _ in 0..4_000 {
-            let call = source.call(&Words::new(shape, &words));
-            let reply = perform(&mut words, call);
-            match (call, reply) {
-                (Call::Delivery { .. }, Ok(Answer::Splits(count))) => {
-                    assert!(count <= shape.k() * shape.m(), "{call:?}: {count}");
-                    assert_eq!(answer(reply), "ok");
-                    assert_eq!(answer_words(reply), [0; ANSWER_WORDS]);
-                    splits += count;
-                }
-                (Call::Delivery { .. }, Err(_)) => refused += 1,
-                (Call::Delivery { .. }, _) | (_, Ok(Answer::Splits(_))) => panic!("{call:?}"),
-                _ => {}
-            }
-        }
-        assert!(refused > 100 && splits > 100, "{refused} {splits}");
-    }
+fn splits_are_not_told() {
+    let mut words = made([3, 2, 6, 1]);
+    clock(&mut words, 7).unwrap();
+    let reply = perform(&mut words, delivery(0, 1, 9));
+    assert_eq!(reply, Ok(Answer::Splits(3)));
+    assert_eq!(answer(reply), "ok");
+    assert_eq!(answer_words(reply), [0; ANSWER_WORDS]);
 }

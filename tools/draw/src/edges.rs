@@ -1,8 +1,6 @@
 //! Calls at the edges of windows and of lateness, where a mistake of one tick shows: of which kind a
 //! call is, and which kinds a long run must show.
 
-use std::ops::RangeInclusive;
-
 use reference::calls::{self, Answer, Call, Reply};
 use reference::ledger::Ledger;
 use reference::refusal;
@@ -103,46 +101,41 @@ pub fn sum_from(book: &[u32], grade: u32, opening: Option<u64>) -> u64 {
     opening.map_or(0, |opening| calls::sum_from(shape, clock, opening, &block))
 }
 
-/// All kinds that there are: those that a book of the example's shape, which is small enough to try
-/// every window and stamp, shows at the clocks of its first intervals.
+/// All kinds that there are: those that the example shows.
 pub fn all() -> Vec<String> {
-    let mut all = Vec::new();
-    for clock in CLOCKS {
-        let mut ledger = example_at(clock);
-        let windows = WINDOWS.map(|window| Call::Query { grade: 0, window });
+    let of_call = |(clock, call, reply)| kinds(within(EXAMPLE), clock, call, reply);
+    example().flat_map(of_call).collect()
+}
+
+/// All that questions can tell: the same, with each neighbouring window that opens elsewhere.
+pub fn all_telling() -> Vec<String> {
+    let of_call = |(clock, call, reply)| {
+        let Call::Query { window, .. } = call else {
+            return Vec::new();
+        };
+        let kinds = kinds(within(EXAMPLE), clock, call, reply);
+        let differs = |other| opening(clock, other) != opening(clock, window);
+        by_neighbours(kinds, window, differs)
+    };
+    example().flat_map(of_call).collect()
+}
+
+/// Every window and every stamp of the example's shape, which is small enough for that, at each clock up to the
+/// second tick of its third interval.
+fn example() -> impl Iterator<Item = (u32, Call, Reply)> {
+    let calls = |clock: u32| {
+        let windows = (0..=4).map(|window| Call::Query { grade: 0, window });
         let stamps = (0..=clock).map(|stamp| Call::Delivery {
             grade: 0,
             stamp,
             volume: 1,
         });
-        for call in windows.chain(stamps) {
-            let reply = ledger.perform(call, within(EXAMPLE).book_length());
-            all.extend(kinds(within(EXAMPLE), clock, call, reply));
-        }
-    }
-    all
-}
-
-/// All that questions can tell: the same, with each neighbouring window that opens elsewhere.
-pub fn all_telling() -> Vec<String> {
-    let mut all = Vec::new();
-    for (clock, window) in CLOCKS.flat_map(|clock| WINDOWS.map(move |window| (clock, window))) {
-        let call = Call::Query { grade: 0, window };
-        let reply = example_at(clock).perform(call, within(EXAMPLE).book_length());
-        let kinds = kinds(within(EXAMPLE), clock, call, reply);
-        let differs = |other| opening(clock, other) != opening(clock, window);
-        all.extend(by_neighbours(kinds, window, differs));
-    }
-    all
-}
-
-/// The example's clocks, to the second tick of its third interval, and its windows.
-const CLOCKS: RangeInclusive<u32> = 0..=9;
-const WINDOWS: RangeInclusive<u32> = 0..=4;
-
-fn example_at(clock: u32) -> Ledger {
-    let mut ledger = Ledger::new(within(EXAMPLE));
-    let reply = ledger.perform(Call::Clock { clock }, within(EXAMPLE).book_length());
-    reply.expect("a later clock");
-    ledger
+        windows.chain(stamps).map(move |call| (clock, call))
+    };
+    (0..=9).flat_map(calls).map(|(clock, call)| {
+        let mut ledger = Ledger::new(within(EXAMPLE));
+        let [_, reply] = [Call::Clock { clock }, call]
+            .map(|call| ledger.perform(call, within(EXAMPLE).book_length()));
+        (clock, call, reply)
+    })
 }

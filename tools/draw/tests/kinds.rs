@@ -1,5 +1,6 @@
-//! The kinds of what a run meets: that each is named for what it is. Whether a long run meets all of them,
-//! and no other, is told by the tallies of the comparisons.
+//! The kinds of what a run meets: that each is named for what it is, above all those that come beside others.
+//! Whether a long run meets all of them, and no other, is told by the tallies of the comparisons, and so is a
+//! mistake among kinds of which just one holds.
 
 use std::collections::BTreeSet;
 
@@ -186,36 +187,31 @@ fn merged(first: &[Record], second: &[Record], more: isize) -> String {
 
 #[test]
 fn kinds_of_accepted_merges() {
-    let at_once = "two days of records, days at the same time";
-    let same = "two days of records, days at the same time, an equal clock in both days, \
+    let at_once = "days at the same time";
+    let same = "days at the same time, an equal clock in both days, \
                 the same record at an equal clock in both days";
+    let before = "the first day before the second";
+    let twice = "the first day before the second, a clock set twice in a day";
+    let limit = "the second day before the first, a clock at the limit";
     let rows: [(&[Record], &[Record], &str); 10] = [
         (&[], &[], "both days empty"),
         (&[], &[c(1)], "the first day empty"),
         (&[c(0)], &[], "the second day empty, a clock of 0"),
-        (
-            &[c(1), c(2)],
-            &[c(3)],
-            "two days of records, the first day before the second",
-        ),
-        (
-            &[c(MOST)],
-            &[c(3)],
-            "two days of records, the second day before the first, a clock at the limit",
-        ),
+        (&[c(1), c(2)], &[c(3)], before),
+        (&[c(MOST)], &[c(3)], limit),
         (&[c(1), c(3)], &[c(2), Q], at_once),
         // The same question, but never at the same clock.
         (&[c(1), c(3), Q], &[c(2), Q, c(4), Q], at_once),
         (&[c(1), c(3)], &[c(1), Q], same),
         (&[c(1), Q, c(3)], &[c(3)], same),
-        (
-            &[c(2), c(2)],
-            &[c(3)],
-            "two days of records, the first day before the second, a clock set twice in a day",
-        ),
+        (&[c(2), c(2)], &[c(3)], twice),
     ];
     for (first, second, kinds) in rows {
-        assert_eq!(merged(first, second, 0), kinds);
+        let days = match first.is_empty() || second.is_empty() {
+            true => "",
+            false => "two days of records, ",
+        };
+        assert_eq!(merged(first, second, 0), format!("{days}{kinds}"));
     }
     let trace = lay_out(&[c(2).to_vec(), Q.to_vec(), vec![]]);
     for (days, room, kinds) in [
@@ -249,30 +245,18 @@ fn kinds_of_refused_merges() {
     assert_eq!(merged(&good, &limit, 0), by_one);
     let longer = format!("{second}, 16, and another length, {past}");
     assert_eq!(merged(&good, &[c(u32::MAX), Q], 1), longer);
-    assert!(merged(&limit, &limit, 0).starts_with("16 by the first, 16 by the second"));
     let unsound = "13 by the first, 16 by the second, 13, and another length";
     assert_eq!(merged(&[broken], &[Q], -1), unsound);
     let unsound = "0 by the first, 13 by the second";
     assert_eq!(merged(&[c(2)], &[broken], 0), unsound);
-    for (more, name) in [
-        (-20, "no output"),
-        (-1, "a word short"),
-        (-4, "a record short"),
-        (-8, "as long as the first day"),
-        (-12, "as long as the second day"),
-        (-2, "words short"),
-        (1, "a word more"),
-        (4, "a record more"),
-        (2, "more words"),
-    ] {
-        assert_eq!(merged(&[c(1), Q, Q], &[c(2), Q], more), name, "{more}");
-    }
 }
 
-/// The kinds of a replay of an empty day or of the two records after it, once words were set.
-fn replayed(set: &[(usize, u32)], day: u32, room: usize) -> String {
+/// The kinds of a replay of an empty day or of the two records after it, once a word was set.
+fn replayed(set: Option<(usize, u32)>, day: u32, room: usize) -> String {
     let mut trace = [2, 5, 0, 5, 8, 1, 3, 0, 0, 3, 0, 2, 0];
-    set.iter().for_each(|(word, value)| trace[*word] = *value);
+    if let Some((word, value)) = set {
+        trace[word] = value;
+    }
     trace::met::kinds(&trace, day, room).join(", ")
 }
 
@@ -280,54 +264,43 @@ fn replayed(set: &[(usize, u32)], day: u32, room: usize) -> String {
 const NEEDED: usize = 2 * ANSWER_WORDS;
 
 #[test]
-fn kinds_of_found_days() {
-    for (room, name) in [
-        (0, "no room"),
-        (1, "words short"),
-        (2, "a word for each record"),
-        (NEEDED - 1, "a word short"),
-        (NEEDED, "as many words as needed"),
-        (NEEDED + 1, "a word more"),
-        (NEEDED + 2, "more words"),
-    ] {
-        let expected = format!("the last day, a day after an empty one, {name}");
-        assert_eq!(replayed(&[], 1, room), expected);
-    }
-    assert_eq!(replayed(&[], 0, 0), "the first day, empty day, no room");
-    assert_eq!(replayed(&[], 0, 1), "the first day, empty day, room");
-}
-
-#[test]
-fn kinds_of_refused_replays() {
-    assert_eq!(trace::met::kinds(&[0], 0, 4), ["no day at all"]);
-    let none = ["no words", "no trace, no such day"];
-    assert_eq!(trace::met::kinds(&[], 0, 4), none);
-    for (day, room, kinds) in [
-        (2, NEEDED, "day = count"),
-        (3, NEEDED - 1, "day = count + 1, no such day, no room"),
-        (9, NEEDED, "a day far beyond"),
-    ] {
-        assert_eq!(replayed(&[], day, room), kinds);
-    }
-    let end = "an end in an earlier day, no trace, no such day";
-    let short = "a kind in the day asked for, no trace, no room";
-    for (word, day, room, kinds) in [
-        ((0, 65), 1, NEEDED, "65 days"),
-        ((0, 66), 1, NEEDED, "more than 65 days"),
-        ((0, 7), 1, NEEDED, "pairs missing"),
-        ((4, 4), 1, NEEDED, "a word that follows"),
-        ((3, 9), 0, NEEDED, "an offset in a later day"),
-        ((4, 9), 1, NEEDED, "a length in the day asked for"),
-        ((4, 12), 2, 0, end),
-        ((9, 0), 1, NEEDED, "a kind in the day asked for"),
-        ((9, 0), 1, NEEDED - 1, short),
+fn kinds_of_replays() {
+    assert_eq!(
+        trace::met::kinds(&[], 0, 4),
+        ["no words", "no trace, no such day"]
+    );
+    let (kind, count) = ("a kind in the day asked for", "day = count + 1");
+    let [short, none] = [", no trace, no room", ", no such day, no room"];
+    for (set, day, room, kinds) in [
+        (None, 0, 0, "the first day, empty day, no room"),
+        (
+            None,
+            1,
+            NEEDED,
+            "the last day, a day after an empty one, as many words as needed",
+        ),
+        (None, 3, NEEDED, count),
+        (None, 3, NEEDED - 1, &format!("{count}{none}")[..]),
+        (
+            Some((4, 12)),
+            2,
+            0,
+            "an end in an earlier day, no trace, no such day",
+        ),
+        (Some((9, 0)), 1, NEEDED, kind),
+        (Some((9, 0)), 1, NEEDED - 1, &format!("{kind}{short}")),
         // An empty day needs no room, and one that is not laid out has no need that could be told.
-        ((9, 0), 0, 0, "a kind in a later day"),
-        ((3, 9), 1, 0, "an offset in the day asked for"),
-        ((7, 1), 0, 0, "rest word 2 of a clock in a later day"),
-        ((8, 1), 0, 0, "rest word 3 of a clock in a later day"),
-        ((12, 1), 0, 0, "rest word 3 of a question in a later day"),
+        (Some((9, 0)), 0, 0, "a kind in a later day"),
+        (Some((3, 9)), 1, 0, "an offset in the day asked for"),
+        (Some((7, 1)), 0, 0, "rest word 2 of a clock in a later day"),
+        (Some((8, 1)), 0, 0, "rest word 3 of a clock in a later day"),
+        (
+            Some((12, 1)),
+            0,
+            0,
+            "rest word 3 of a question in a later day",
+        ),
     ] {
-        assert_eq!(replayed(&[word], day, room), kinds);
+        assert_eq!(replayed(set, day, room), kinds);
     }
 }

@@ -2,9 +2,9 @@
 
 use reference::layout::{CLOCK, HEAD_WORDS, LENGTH, OFFSET, SLOT_WORDS, WEIGHT};
 use reference::shape::Shape;
-use reference::words::{encode_block, encode_head};
+use reference::words::{encode_block, encode_head, number};
 
-use crate::places::Place;
+use crate::places::{add, weight, Place};
 use crate::random::Random;
 use crate::{sound, wrapped};
 
@@ -117,7 +117,7 @@ fn slot_word(random: &mut Random, shape: Shape, words: &mut [u32], field: usize)
 }
 
 fn total_word(random: &mut Random, shape: Shape, words: &mut [u32]) {
-    let total = Place::draw(random, shape).total;
+    let total = Place::draw(random, shape).total().start;
     words[total] = match random.below(4) {
         0 => shape.capacity() as u32 + 1,
         _ => changed(random, words[total]),
@@ -187,12 +187,12 @@ fn moved_boundary(random: &mut Random, shape: Shape, words: &mut [u32]) {
 fn moved_weight(random: &mut Random, shape: Shape, words: &mut [u32]) {
     let place = Place::draw(random, shape);
     if let Some((low, high)) = place.neighbours(random, words) {
-        let (low, high) = (low + WEIGHT, high + WEIGHT);
         let (from, to) = random.pick(&[(low, high), (high, low)]);
-        let spare = words[from].saturating_sub(1 << place.index);
-        let moved = random.pick(&[1, spare, spare.wrapping_add(1), words[from]]);
-        words[from] = words[from].wrapping_sub(moved);
-        words[to] = words[to].wrapping_add(moved);
+        let all = number(&words[weight(from)]);
+        let spare = all.saturating_sub(1 << place.index);
+        let moved = random.pick(&[1, spare, spare + 1, all]);
+        add(&mut words[weight(from)], moved.wrapping_neg());
+        add(&mut words[weight(to)], moved);
     }
 }
 
@@ -231,6 +231,6 @@ fn cleared_level(random: &mut Random, shape: Shape, words: &mut [u32]) {
         for index in 0..shape.levels() {
             words[Place::new(shape, place.grade, parity, index).words()].fill(0);
         }
-        words[place.total] = 0;
+        words[place.total()].fill(0);
     }
 }

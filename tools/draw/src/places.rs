@@ -2,8 +2,9 @@
 
 use std::ops::Range;
 
-use reference::layout;
+use reference::layout::{self, SLOT_WORDS, WEIGHT};
 use reference::shape::Shape;
+use reference::words::{number, write_number};
 
 use crate::random::Random;
 
@@ -14,7 +15,7 @@ pub struct Place {
     pub parity: usize,
     pub index: usize,
     /// The first word of the half's total.
-    pub total: usize,
+    total: usize,
     /// The first word of the level.
     pub start: usize,
     slots: usize,
@@ -56,7 +57,12 @@ impl Place {
 
     /// The first word of a slot.
     pub fn slot(self, slot: usize) -> usize {
-        self.start + layout::LEVEL_HEAD_WORDS + layout::SLOT_WORDS * slot
+        self.start + layout::LEVEL_HEAD_WORDS + SLOT_WORDS * slot
+    }
+
+    /// The words of the half's total.
+    pub fn total(self) -> Range<usize> {
+        self.total..self.total + layout::BOOK.number_words
     }
 
     /// How many slots the count calls buckets.
@@ -81,4 +87,15 @@ impl Place {
     pub fn words(self) -> Range<usize> {
         self.start..self.slot(self.slots)
     }
+}
+
+/// The words of the weight of a slot that starts here.
+pub fn weight(slot: usize) -> Range<usize> {
+    slot + WEIGHT..slot + SLOT_WORDS
+}
+
+/// Adds to a number, modulo 2^32 for each of its words.
+pub fn add(words: &mut [u32], more: u64) {
+    let mask = u64::MAX >> (64 - 32 * words.len());
+    write_number(number(words).wrapping_add(more) & mask, words);
 }

@@ -69,14 +69,9 @@ pub fn any_word(random: &mut Random, words: &mut [u32]) {
 
 fn head_word(random: &mut Random, shape: Shape, words: &mut [u32]) {
     let place = random.below(HEAD_WORDS as u64) as usize;
-    let edges = [
-        [Shape::K_MIN - 1, Shape::K_MAX + 1],
-        [Shape::N_MIN - 1, Shape::N_MAX + 1],
-        [Shape::M_MIN - 1, Shape::M_MAX + 1],
-        [Shape::G_MIN - 1, Shape::G_MAX + 1],
-        [Shape::CLOCK_MAX + 1, shape.interval_ticks() as u32],
-    ];
-    words[place] = match edges.get(place) {
+    let limits = Shape::LIMITS.map(|[least, most]| [least - 1, most + 1]);
+    let clock = [Shape::CLOCK_MAX + 1, shape.interval_ticks() as u32];
+    words[place] = match limits.iter().chain([&clock]).nth(place) {
         Some(edges) if random.one_in(3) => random.pick(edges),
         _ => changed(random, words[place]),
     };

@@ -164,13 +164,7 @@ impl Makes {
 
 /// The numbers next to the limits of k, n, M or g, and far from them.
 fn outside(place: usize) -> [u32; 4] {
-    let limits = [
-        (Shape::K_MIN, Shape::K_MAX),
-        (Shape::N_MIN, Shape::N_MAX),
-        (Shape::M_MIN, Shape::M_MAX),
-        (Shape::G_MIN, Shape::G_MAX),
-    ];
-    let (least, greatest) = limits[place];
+    let [least, greatest] = Shape::LIMITS[place];
     [0, least - 1, greatest + 1, u32::MAX]
 }
 

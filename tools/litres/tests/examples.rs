@@ -1,10 +1,10 @@
 //! The examples of document 01 through the archive, with the windows and the lateness of document 02,
-//! request One, the halvings of request Four and the grounds of request Six.
+//! request One, and the halvings of request Four. The grounds of request Six are in the crate's first page.
 
 mod common;
 
 use common::{after, made, DELIVERIES, EXAMPLE};
-use litres::{clock, delivery, ground, make, query, words, Finer, Ground, Refused};
+use litres::{clock, delivery, ground, make, query, Refused};
 
 /// Words of a level with two slots.
 const LEVEL: usize = 8;
@@ -17,16 +17,6 @@ fn example(number: usize) -> Vec<u32> {
 /// The words of a level of the even half.
 fn level(book: &[u32], index: usize) -> &[u32] {
     &book[10 + LEVEL * index..][..LEVEL]
-}
-
-#[test]
-fn lengths() {
-    assert_eq!(words(2, 2, 4, 1), Some(90));
-    assert_eq!(words(20, 441, 24, 1), Some(66_260));
-    for [k, n, m, g] in [[1, 2, 4, 1], [2, 1025, 4, 1], [2, 2, 25, 1], [2, 2, 4, 9]] {
-        assert_eq!(words(k, n, m, g), None);
-    }
-    assert_eq!(words(u32::MAX, u32::MAX, u32::MAX, u32::MAX), None);
 }
 
 #[test]
@@ -66,23 +56,6 @@ fn p4_to_p7_windows() {
         assert_eq!(query(&example(number), 0, window), Ok(sum), "P{number}");
     }
     assert_eq!(query(&example(7), 0, 5), Err(Refused(5)));
-}
-
-#[test]
-fn p7_grounds() {
-    let book = example(7);
-    let expected = |sum, level, limit, finer| {
-        Ok(Ground {
-            sum,
-            level,
-            limit,
-            finer,
-        })
-    };
-    assert_eq!(ground(&book, 0, 0), expected(0, 0, 0, Finer::WindowZero));
-    assert_eq!(ground(&book, 0, 2), expected(3, 0, 0, Finer::LevelZero));
-    assert_eq!(ground(&book, 0, 3), expected(4, 2, 12, Finer::First(2)));
-    assert_eq!(ground(&book, 0, 5), Err(Refused(5)));
 }
 
 #[test]

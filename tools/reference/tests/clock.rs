@@ -86,7 +86,7 @@ fn all_grades_are_inspected_before_any_is_emptied() {
     for grade in 0..3 {
         for parity in 0..2 {
             let mut words = book();
-            words[shape().block(grade).start + parity] += 1;
+            words[shape().block(grade)][layout::BOOK.total(parity).start] += 1;
             for new in [5, 6, 8, 12] {
                 let before = words.clone();
                 assert_eq!(clock(&mut words, new), Err(11));

@@ -29,7 +29,6 @@ struct Seen {
     bounded: usize,
     inexact: usize,
     above: usize,
-    below: usize,
     from_level_0: usize,
     /// Grounds that differ from the ledger, where n is at most k + 1 and no bound holds.
     unbounded_inexact: usize,
@@ -124,22 +123,17 @@ impl Run {
         assert!(self.ledger.admits(exact, book), "{exact}: {book}");
         let admitted = self.ledger.admits_exact(grade, window, book);
         assert!(admitted, "{exact}: {book}, window {window}");
-        self.check_ground(grade, window, book);
-        if shape.n() > shape.k() + 1 {
-            self.seen.bounded += 1;
-            self.seen.inexact += usize::from(book != exact);
-            self.seen.above += usize::from(book > exact);
-            self.seen.below += usize::from(book < exact);
-        } else {
-            self.seen.unbounded_inexact += usize::from(book != exact);
-        }
-    }
-
-    fn check_ground(&self, grade: u32, window: u32, book: u64) {
         let ground = ground(&self.words, grade, window).expect("a query that was answered");
         assert_eq!(ground.sum, book);
         let admitted = self.ledger.admits_ground(grade, window, ground);
         assert!(admitted, "{ground:?}");
+        if shape.n() > shape.k() + 1 {
+            self.seen.bounded += 1;
+            self.seen.inexact += usize::from(book != exact);
+            self.seen.above += usize::from(book > exact);
+        } else {
+            self.seen.unbounded_inexact += usize::from(book != exact);
+        }
     }
 
     fn block(&self, grade: u32) -> [Histogram; 2] {
@@ -245,8 +239,8 @@ fn long_intervals_stay_within_a_narrow_bound() {
             ..source.pace
         };
         run.steps(&mut source, 9000);
-        assert!(run.seen.inexact > 50, "{}", run.seen.inexact);
-        assert!(run.seen.above > 0 && run.seen.below > 0);
+        let (inexact, above) = (run.seen.inexact, run.seen.above);
+        assert!(inexact > 50 && above > 0 && above < inexact, "{inexact}");
     }
 }
 

@@ -133,16 +133,9 @@ fn make_may_need_all_of_the_buffer_and_no_more() {
 
 #[test]
 fn make_outside_the_limits_is_refused_1() {
-    for numbers in [
-        "0 0 0 0",
-        "21 2 4 1",
-        "2 1025 24 8",
-        "2 2 25 1",
-        "2 2 4 0",
-        "2 2 4 9",
-        "4294967295 4294967295 4294967295 4294967295",
-    ] {
-        let line = &format!("m {numbers}")[..];
+    let lines = "m 0 0 0 0|m 21 2 4 1|m 2 1025 24 8|m 2 2 25 1|m 2 2 4 0|m 2 2 4 9\
+                 |m 4294967295 4294967295 4294967295 4294967295";
+    for line in lines.split('|') {
         assert_eq!(answers(&[line]), ["refused 1"], "{line}");
         assert_eq!(answers(&["m 2 2 4 1", line])[1], "refused 1", "{line}");
     }

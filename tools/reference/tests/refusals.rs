@@ -8,6 +8,7 @@ use draw::calls::call_of;
 use draw::shapes::{within, Numbers};
 use reference::calls::{clock, deliver, perform, query, Answer, Call};
 use reference::ground::ground;
+use reference::layout::BOOK;
 use reference::shape::Shape;
 
 const NUMBERS: Numbers = [2, 2, 4, 2];
@@ -23,7 +24,7 @@ fn book() -> Vec<u32> {
 /// The same with a total above all limits in grade 1, in the half that the calls do not touch.
 fn unsound() -> Vec<u32> {
     let mut words = book();
-    words[within(NUMBERS).block(1).start + 1] = u32::MAX;
+    words[within(NUMBERS).block(1)][BOOK.total(1).start] = u32::MAX;
     words
 }
 

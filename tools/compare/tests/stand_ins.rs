@@ -166,7 +166,7 @@ fn wrapped_length(n: u32, m: u32, g: u32) -> usize {
     let slots = n.wrapping_mul(layout::SLOT_WORDS as u32);
     let level = slots.wrapping_add(layout::LEVEL_HEAD_WORDS as u32);
     let levels = m.wrapping_add(1).wrapping_mul(2).wrapping_mul(level);
-    let block = levels.wrapping_add(layout::BLOCK_HEAD_WORDS as u32);
+    let block = levels.wrapping_add(layout::BOOK.block_head_words() as u32);
     g.wrapping_mul(block)
         .wrapping_add(layout::HEAD_WORDS as u32) as usize
 }

@@ -130,10 +130,9 @@ fn stamp(random: &mut Random, shape: Shape, clock: u32) -> u64 {
 /// How many words a call is lent, of a book with `exact` and `more` after it: mostly those of the
 /// book, else fewer, more or none.
 pub fn lent(random: &mut Random, call: Call, exact: usize, more: usize) -> usize {
-    let often = if matches!(call, Call::Make { .. }) {
-        4
-    } else {
-        14
+    let often = match call {
+        Call::Make { .. } => 4,
+        _ => 14,
     };
     if random.one_in(often) {
         other_length(random, exact, more)

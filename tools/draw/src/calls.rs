@@ -53,12 +53,9 @@ impl Source {
 pub struct Caller<'a> {
     /// The source's generator.
     pub random: &'a mut Random,
-    /// The source's pace.
-    pub pace: Pace,
-    /// The source's shapes.
-    pub makes: Makes,
-    /// The book.
-    pub view: &'a dyn View,
+    pace: Pace,
+    makes: Makes,
+    view: &'a dyn View,
 }
 
 impl Caller<'_> {
@@ -119,7 +116,6 @@ impl Caller<'_> {
         inside <= 1 || inside == self.ticks() - 1
     }
 
-    /// The oldest stamp that is not late.
     fn oldest(&self) -> u32 {
         self.shape().oldest(self.now())
     }
@@ -130,7 +126,7 @@ impl Caller<'_> {
     }
 
     /// Steps on, leaps into another interval, or takes an edge.
-    pub fn clock(&mut self) -> Call {
+    fn clock(&mut self) -> Call {
         // Clocks are few, so more of them are at an edge.
         let clock = if self.random.below(self.pace.edges.max(6)) < 3 {
             self.edge_clock()
@@ -151,7 +147,7 @@ impl Caller<'_> {
 
     /// From the start of a book into its first intervals, so that stamps have room, often next to
     /// the end of one.
-    pub fn first_clock(&mut self) -> Call {
+    fn first_clock(&mut self) -> Call {
         let ticks = self.ticks();
         let random = &mut *self.random;
         let clock = match random.below(8) {
@@ -253,7 +249,7 @@ impl Caller<'_> {
 }
 
 /// A tick or one of its neighbours.
-pub fn beside(random: &mut Random, tick: u32) -> u32 {
+pub(crate) fn beside(random: &mut Random, tick: u32) -> u32 {
     random.pick(&[tick.wrapping_sub(1), tick, tick.wrapping_add(1)])
 }
 

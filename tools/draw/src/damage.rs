@@ -2,14 +2,14 @@
 
 use reference::layout::{CLOCK, HEAD_WORDS, LENGTH, OFFSET, SLOT_WORDS, WEIGHT};
 use reference::shape::Shape;
-use reference::words::{encode_block, encode_head};
+use reference::words::{encode_block, encode_head, number};
 
-use crate::places::Place;
+use crate::places::{add, weight, Place};
 use crate::random::Random;
 use crate::{sound, wrapped};
 
 /// Changes some words of a book of this shape.
-pub type Change = fn(&mut Random, Shape, &mut [u32]);
+type Change = fn(&mut Random, Shape, &mut [u32]);
 
 /// Each kind of damage with its name.
 pub const KINDS: [(&str, Change); 19] = [
@@ -69,14 +69,9 @@ pub fn any_word(random: &mut Random, words: &mut [u32]) {
 
 fn head_word(random: &mut Random, shape: Shape, words: &mut [u32]) {
     let place = random.below(HEAD_WORDS as u64) as usize;
-    let edges = [
-        [Shape::K_MIN - 1, Shape::K_MAX + 1],
-        [Shape::N_MIN - 1, Shape::N_MAX + 1],
-        [Shape::M_MIN - 1, Shape::M_MAX + 1],
-        [Shape::G_MIN - 1, Shape::G_MAX + 1],
-        [Shape::CLOCK_MAX + 1, shape.interval_ticks() as u32],
-    ];
-    words[place] = match edges.get(place) {
+    let limits = Shape::LIMITS.map(|[least, most]| [least - 1, most + 1]);
+    let clock = [Shape::CLOCK_MAX + 1, shape.interval_ticks() as u32];
+    words[place] = match limits.iter().chain([&clock]).nth(place) {
         Some(edges) if random.one_in(3) => random.pick(edges),
         _ => changed(random, words[place]),
     };
@@ -117,7 +112,7 @@ fn slot_word(random: &mut Random, shape: Shape, words: &mut [u32], field: usize)
 }
 
 fn total_word(random: &mut Random, shape: Shape, words: &mut [u32]) {
-    let total = Place::draw(random, shape).total;
+    let total = Place::draw(random, shape).total().start;
     words[total] = match random.below(4) {
         0 => shape.capacity() as u32 + 1,
         _ => changed(random, words[total]),
@@ -187,12 +182,12 @@ fn moved_boundary(random: &mut Random, shape: Shape, words: &mut [u32]) {
 fn moved_weight(random: &mut Random, shape: Shape, words: &mut [u32]) {
     let place = Place::draw(random, shape);
     if let Some((low, high)) = place.neighbours(random, words) {
-        let (low, high) = (low + WEIGHT, high + WEIGHT);
         let (from, to) = random.pick(&[(low, high), (high, low)]);
-        let spare = words[from].saturating_sub(1 << place.index);
-        let moved = random.pick(&[1, spare, spare.wrapping_add(1), words[from]]);
-        words[from] = words[from].wrapping_sub(moved);
-        words[to] = words[to].wrapping_add(moved);
+        let all = number(&words[weight(from)]);
+        let spare = all.saturating_sub(1 << place.index);
+        let moved = random.pick(&[1, spare, spare + 1, all]);
+        add(&mut words[weight(from)], moved.wrapping_neg());
+        add(&mut words[weight(to)], moved);
     }
 }
 
@@ -231,6 +226,6 @@ fn cleared_level(random: &mut Random, shape: Shape, words: &mut [u32]) {
         for index in 0..shape.levels() {
             words[Place::new(shape, place.grade, parity, index).words()].fill(0);
         }
-        words[place.total] = 0;
+        words[place.total()].fill(0);
     }
 }

@@ -1,8 +1,6 @@
 //! Calls at the edges of windows and of lateness, where a mistake of one tick shows: of which kind a
 //! call is, and which kinds a long run must show.
 
-use std::ops::RangeInclusive;
-
 use reference::calls::{self, Answer, Call, Reply};
 use reference::ledger::Ledger;
 use reference::refusal;
@@ -12,6 +10,7 @@ use reference::window::opening;
 use reference::words::{decode_block, decode_head};
 
 use crate::shapes::{within, EXAMPLE};
+use crate::tally::that_hold;
 
 /// The kinds of a call that a book of this shape answered at this clock, mostly none. A question
 /// counts where it is accepted, a delivery at the oldest stamp that is accepted or at the one before
@@ -22,16 +21,16 @@ pub fn kinds(shape: Shape, clock: u32, call: Call, reply: Reply) -> Vec<String> 
     };
     let names = match (call, reply) {
         (Call::Query { window, .. }, Ok(_)) => windows(shape, clock, window),
-        (Call::Delivery { stamp, .. }, Ok(_)) if stamp == shape.oldest(clock) => {
-            vec!["oldest stamp"]
+        (Call::Delivery { stamp, .. }, Ok(_)) => {
+            that_hold([("oldest stamp", stamp == shape.oldest(clock))])
         }
         // A late stamp is below the clock, so that there is a next one.
-        (Call::Delivery { stamp, .. }, Err(refusal::LATE)) if stamp + 1 == shape.oldest(clock) => {
-            vec!["stamp before the oldest"]
+        (Call::Delivery { stamp, .. }, Err(refusal::LATE)) => {
+            that_hold([("stamp before the oldest", stamp + 1 == shape.oldest(clock))])
         }
         _ => Vec::new(),
     };
-    let kind = |name: &str| format!("{name} at clock {place}");
+    let kind = |name| format!("{name} at clock {place}");
     names.into_iter().map(kind).collect()
 }
 
@@ -56,18 +55,17 @@ fn place(shape: Shape, clock: u32) -> Option<&'static str> {
 }
 
 /// What a window is that has its length from the clock or the shape; it may be several at once.
-fn windows(shape: Shape, clock: u32, window: u32) -> Vec<&'static str> {
-    let (ticks, clock) = (shape.interval_ticks(), u64::from(clock));
-    let lengths = [
-        ("window 0", 0),
-        ("window 1", 1),
-        ("window clock", clock),
-        ("window clock + 1", clock + 1),
-        ("window 2^k - 1", ticks - 1),
-        ("window 2^k", ticks),
-    ];
-    let equal = lengths.into_iter().filter(|(_, l)| *l == window.into());
-    equal.map(|(name, _)| name).collect()
+fn windows(shape: Shape, clock: u32, window: u32) -> Vec<String> {
+    let ticks = shape.interval_ticks();
+    let [window, clock] = [window, clock].map(u64::from);
+    that_hold([
+        ("window 0", window == 0),
+        ("window 1", window == 1),
+        ("window clock", window == clock),
+        ("window clock + 1", window == clock + 1),
+        ("window 2^k - 1", window == ticks - 1),
+        ("window 2^k", window == ticks),
+    ])
 }
 
 /// The kinds of a question that tell its window from a neighbour: a tick less or a tick more gives
@@ -103,46 +101,41 @@ pub fn sum_from(book: &[u32], grade: u32, opening: Option<u64>) -> u64 {
     opening.map_or(0, |opening| calls::sum_from(shape, clock, opening, &block))
 }
 
-/// All kinds that there are: those that a book of the example's shape, which is small enough to try
-/// every window and stamp, shows at the clocks of its first intervals.
+/// All kinds that there are: those that the example shows.
 pub fn all() -> Vec<String> {
-    let mut all = Vec::new();
-    for clock in CLOCKS {
-        let mut ledger = example_at(clock);
-        let windows = WINDOWS.map(|window| Call::Query { grade: 0, window });
+    let of_call = |(clock, call, reply)| kinds(within(EXAMPLE), clock, call, reply);
+    example().flat_map(of_call).collect()
+}
+
+/// All that questions can tell: the same, with each neighbouring window that opens elsewhere.
+pub fn all_telling() -> Vec<String> {
+    let of_call = |(clock, call, reply)| {
+        let Call::Query { window, .. } = call else {
+            return Vec::new();
+        };
+        let kinds = kinds(within(EXAMPLE), clock, call, reply);
+        let differs = |other| opening(clock, other) != opening(clock, window);
+        by_neighbours(kinds, window, differs)
+    };
+    example().flat_map(of_call).collect()
+}
+
+/// Every window and every stamp of the example's shape, which is small enough for that, at each clock up to the
+/// second tick of its third interval.
+fn example() -> impl Iterator<Item = (u32, Call, Reply)> {
+    let calls = |clock: u32| {
+        let windows = (0..=4).map(|window| Call::Query { grade: 0, window });
         let stamps = (0..=clock).map(|stamp| Call::Delivery {
             grade: 0,
             stamp,
             volume: 1,
         });
-        for call in windows.chain(stamps) {
-            let reply = ledger.perform(call, within(EXAMPLE).book_length());
-            all.extend(kinds(within(EXAMPLE), clock, call, reply));
-        }
-    }
-    all
-}
-
-/// All that questions can tell: the same, with each neighbouring window that opens elsewhere.
-pub fn all_telling() -> Vec<String> {
-    let mut all = Vec::new();
-    for (clock, window) in CLOCKS.flat_map(|clock| WINDOWS.map(move |window| (clock, window))) {
-        let call = Call::Query { grade: 0, window };
-        let reply = example_at(clock).perform(call, within(EXAMPLE).book_length());
-        let kinds = kinds(within(EXAMPLE), clock, call, reply);
-        let differs = |other| opening(clock, other) != opening(clock, window);
-        all.extend(by_neighbours(kinds, window, differs));
-    }
-    all
-}
-
-/// The example's clocks, to the second tick of its third interval, and its windows.
-const CLOCKS: RangeInclusive<u32> = 0..=9;
-const WINDOWS: RangeInclusive<u32> = 0..=4;
-
-fn example_at(clock: u32) -> Ledger {
-    let mut ledger = Ledger::new(within(EXAMPLE));
-    let reply = ledger.perform(Call::Clock { clock }, within(EXAMPLE).book_length());
-    reply.expect("a later clock");
-    ledger
+        windows.chain(stamps).map(move |call| (clock, call))
+    };
+    (0..=9).flat_map(calls).map(|(clock, call)| {
+        let mut ledger = Ledger::new(within(EXAMPLE));
+        let [_, reply] = [Call::Clock { clock }, call]
+            .map(|call| ledger.perform(call, within(EXAMPLE).book_length()));
+        (clock, call, reply)
+    })
 }

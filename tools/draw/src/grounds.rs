@@ -12,6 +12,7 @@ use crate::book::Book;
 use crate::calls::Source;
 use crate::random::Random;
 use crate::shapes::Makes;
+use crate::tally::{names, that_hold};
 use crate::view::Words;
 
 const WINDOW_0: &str = "window 0";
@@ -41,9 +42,8 @@ pub fn draw(random: &mut Random, index: u64) -> (Vec<u32>, u32, u32) {
 /// All kinds that there are.
 pub fn all() -> Vec<String> {
     let refused = REFUSALS.map(|number| answer(Err(number)));
-    let kinds = [WINDOW_0].into_iter().chain(LEVELS);
-    let kinds = kinds.chain([BEFORE, HIGHER, LOST]);
-    kinds.map(str::to_string).chain(refused).collect()
+    let kinds = names(&[&[WINDOW_0], &LEVELS, &[BEFORE, HIGHER, LOST]]);
+    kinds.into_iter().chain(refused).collect()
 }
 
 /// The kinds of a ground of this grade and window, or of its refusal: one by its level, and others where
@@ -63,14 +63,12 @@ fn levels(book: &[u32], grade: u32, window: u32, level: usize) -> Vec<String> {
     let firsts = firsts(book, grade, opening);
     let (finer, from) = firsts.split_at(level);
     let lost = |first: &u64| *first > shape.offset(opening);
-    let kinds = [
+    that_hold([
         (LEVELS[level.min(2)], true),
         (BEFORE, is_before && level > 0),
         (HIGHER, finer.iter().max() > finer.last()),
         (LOST, from.iter().any(lost)),
-    ];
-    let met = kinds.into_iter().filter(|(_, holds)| *holds);
-    met.map(|(kind, _)| kind.to_string()).collect()
+    ])
 }
 
 /// The first kept offset of each level, from level 0 on, in the half of a tick.

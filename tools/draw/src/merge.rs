@@ -3,12 +3,13 @@
 
 pub mod met;
 
-use reference::calls::{clock, deliver, make};
+use reference::calls::{clock, deliver, perform};
 use reference::layout;
 use reference::merge::{home_clocks, Named};
 use reference::shape::Shape;
 use reference::trace::{lay_out, Record, CLOCK, DAYS_MAX, DELIVERY, QUERY, RECORD_WORDS};
 
+use crate::calls::call_of;
 use crate::random::Random;
 use crate::sound;
 use crate::trace::{self, damage};
@@ -42,12 +43,9 @@ impl Drawn {
                 damage::damage(random, words);
             }
         }
-        let mut drawn = Drawn {
-            traces,
-            days,
-            room: 0,
-        };
-        drawn.room = room(random, lengths(drawn.named()));
+        let room = 0;
+        let mut drawn = Drawn { traces, days, room };
+        drawn.room = self::room(random, lengths(drawn.named()));
         drawn
     }
 
@@ -190,11 +188,7 @@ impl Scene {
             let volume = random.pick(&[1, 1, 1, 2, 3, 0]);
             [DELIVERY, grade, clock.saturating_sub(back) + ahead, volume]
         };
-        if random.one_in(40) {
-            trace::any_numbers(random, record)
-        } else {
-            record
-        }
+        trace::rarely_any_numbers(random, record)
     }
 }
 
@@ -205,7 +199,6 @@ pub fn book(random: &mut Random, shape: Shape, most: u32) -> (&'static str, Vec<
         1 => most.saturating_sub(random.between(1, 3)),
         _ => random.between(0, most),
     };
-    let [k, n, m, g] = shape.numbers();
     let kind = random.pick(&BOOKS);
     if kind == "built" {
         // What the blocks hold does not depend on the clock.
@@ -214,13 +207,13 @@ pub fn book(random: &mut Random, shape: Shape, most: u32) -> (&'static str, Vec<
         return (kind, book);
     }
     let mut book = vec![0; shape.book_length()];
-    make(&mut book, k, n, m, g).expect("the length is right");
+    perform(&mut book, call_of(shape.numbers())).expect("the length is right");
     if kind == "grown" {
         clock(&mut book, at).expect("a later or equal clock");
         for _ in 0..random.below(12) {
             let reach = random.pick(&[3, 2 * shape.interval_ticks()]);
             let stamp = at.saturating_sub(random.below(reach) as u32);
-            let grade = random.below(g.into()) as u32;
+            let grade = random.below(shape.g().into()) as u32;
             // Some are late, and some find the interval full.
             let _ = deliver(&mut book, grade, stamp, random.between(1, 4));
         }

@@ -2,36 +2,33 @@
 
 use std::ops::Range;
 
-use reference::layout;
+use reference::layout::{self, SLOT_WORDS, WEIGHT};
 use reference::shape::Shape;
+use reference::words::{number, write_number};
 
 use crate::random::Random;
 
 /// One level of one half of one grade.
 #[derive(Clone, Copy, Debug)]
 pub struct Place {
-    /// The grade.
     pub grade: u32,
-    /// 0 for the even half, 1 for the odd.
     pub parity: usize,
-    /// The level's index.
     pub index: usize,
     /// The first word of the half's total.
-    pub total: usize,
+    total: usize,
     /// The first word of the level.
     pub start: usize,
     slots: usize,
 }
 
 impl Place {
-    /// The level of these numbers.
     pub fn new(shape: Shape, grade: u32, parity: usize, index: usize) -> Place {
         let block = shape.block(grade).start;
         Place {
             grade,
             parity,
             index,
-            total: block + layout::total(parity).start,
+            total: block + layout::BOOK.total(parity).start,
             start: block + shape.level(parity, index).start,
             slots: shape.n() as usize,
         }
@@ -49,7 +46,6 @@ impl Place {
         Place::new(shape, grade, random.below(2) as usize, index as usize)
     }
 
-    /// The word of the bucket count.
     pub fn count(self) -> usize {
         self.start + layout::COUNT
     }
@@ -61,7 +57,12 @@ impl Place {
 
     /// The first word of a slot.
     pub fn slot(self, slot: usize) -> usize {
-        self.start + layout::LEVEL_HEAD_WORDS + layout::SLOT_WORDS * slot
+        self.start + layout::LEVEL_HEAD_WORDS + SLOT_WORDS * slot
+    }
+
+    /// The words of the half's total.
+    pub fn total(self) -> Range<usize> {
+        self.total..self.total + layout::BOOK.number_words
     }
 
     /// How many slots the count calls buckets.
@@ -83,8 +84,18 @@ impl Place {
         Some((self.slot(low), self.slot(low + 1)))
     }
 
-    /// All words of the level.
     pub fn words(self) -> Range<usize> {
         self.start..self.slot(self.slots)
     }
+}
+
+/// The words of the weight of a slot that starts here.
+pub fn weight(slot: usize) -> Range<usize> {
+    slot + WEIGHT..slot + SLOT_WORDS
+}
+
+/// Adds to a number, modulo 2^32 for each of its words.
+pub fn add(words: &mut [u32], more: u64) {
+    let mask = u64::MAX >> (64 - 32 * words.len());
+    write_number(number(words).wrapping_add(more) & mask, words);
 }

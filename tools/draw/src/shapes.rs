@@ -164,13 +164,7 @@ impl Makes {
 
 /// The numbers next to the limits of k, n, M or g, and far from them.
 fn outside(place: usize) -> [u32; 4] {
-    let limits = [
-        (Shape::K_MIN, Shape::K_MAX),
-        (Shape::N_MIN, Shape::N_MAX),
-        (Shape::M_MIN, Shape::M_MAX),
-        (Shape::G_MIN, Shape::G_MAX),
-    ];
-    let (least, greatest) = limits[place];
+    let [least, greatest] = Shape::LIMITS[place];
     [0, least - 1, greatest + 1, u32::MAX]
 }
 
@@ -234,7 +228,7 @@ fn most_slots([k, m, g]: [u32; 3], words: usize) -> Option<u32> {
 
 /// For k, n, M and g another number, the others kept, with which the length of a book comes out
 /// the same modulo 2^32. k is not in the length; its number gives the same shift.
-pub fn same_modulo_2_to_the_32(shape: Shape) -> Numbers {
+pub(crate) fn same_modulo_2_to_the_32(shape: Shape) -> Numbers {
     let step = |factor: usize| 1u32 << (32 - factor.trailing_zeros());
     let [k, n, m, g] = shape.numbers();
     [
@@ -246,7 +240,7 @@ pub fn same_modulo_2_to_the_32(shape: Shape) -> Numbers {
 }
 
 /// Decilitres that the second program, which takes them one by one, inserts in little time.
-pub fn quick_volume(shape: Shape) -> u64 {
+pub(crate) fn quick_volume(shape: Shape) -> u64 {
     const STEPS: u64 = 500_000;
     let steps_of_one = shape.levels() as u64 * (6 + u64::from(shape.n()) / 8);
     (STEPS / steps_of_one).max(1)

@@ -187,30 +187,18 @@ impl Spans {
         let covers = |slot: &usize| aim.is_some_and(|offset| self.buckets[*slot].covers(offset));
         let aimed = long.iter().copied().find(covers);
         let slot = aimed.unwrap_or_else(|| random.pick(&long));
-        let bucket = self.buckets[slot];
-        let length = bucket.length / 2;
-        let parts = [bucket.offset, bucket.offset + length].map(|offset| Bucket {
-            offset,
-            length,
-            weight: 0,
-        });
+        let parts = self.buckets[slot].split();
         self.buckets.splice(slot..=slot, parts);
         true
     }
 
     /// The weights that each bucket can have beside others.
     fn bounds(&self, index: usize, total: u64) -> Vec<(u64, u64)> {
-        let most = |bucket: &Bucket| {
-            if bucket.length > 1 {
-                (2 << index) - 1
-            } else {
-                total
-            }
+        let bound = |bucket: &Bucket| match bucket.length {
+            1 => (1 << index, total),
+            _ => (1 << index, (2 << index) - 1),
         };
-        self.buckets
-            .iter()
-            .map(|bucket| (1 << index, most(bucket)))
-            .collect()
+        self.buckets.iter().map(bound).collect()
     }
 
     fn level(self, weights: Vec<u64>) -> Level {
@@ -228,19 +216,16 @@ impl Spans {
 /// Weights within their bounds that add up to the sum, where there are any.
 fn weights(random: &mut Random, bounds: &[(u64, u64)], sum: u64) -> Option<Vec<u64>> {
     let least: u64 = bounds.iter().map(|bound| bound.0).sum();
-    let mut room: u64 = bounds
-        .iter()
-        .map(|bound| bound.1.saturating_sub(bound.0))
-        .sum();
+    let own = |&(low, high): &(u64, u64)| high.saturating_sub(low);
+    let mut room: u64 = bounds.iter().map(own).sum();
     let mut rest = sum.checked_sub(least).filter(|rest| *rest <= room)?;
     let mut weights = vec![0; bounds.len()];
     for slot in shuffled(random, bounds.len()) {
-        let (low, high) = bounds[slot];
-        let own = high.saturating_sub(low);
+        let own = own(&bounds[slot]);
         room -= own;
         let extra = end_or_between(random, rest.saturating_sub(room), own.min(rest));
         rest -= extra;
-        weights[slot] = low + extra;
+        weights[slot] = bounds[slot].0 + extra;
     }
     Some(weights)
 }

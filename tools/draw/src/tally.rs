@@ -63,7 +63,7 @@ impl Tally {
         }
     }
 
-    /// How often a kind occurred.
+    /// How often this kind occurred.
     pub fn count(&self, kind: &str) -> u64 {
         self.counts.get(kind).copied().unwrap_or(0)
     }
@@ -108,6 +108,17 @@ impl Display for Tally {
         let counts: Vec<String> = kinds.map(|k| format!("{k}: {}", self.count(k))).collect();
         write!(f, "{}", counts.join(", "))
     }
+}
+
+/// The kinds of these lists.
+pub(crate) fn names(lists: &[&[&str]]) -> Vec<String> {
+    lists.concat().into_iter().map(str::to_string).collect()
+}
+
+/// Those of these kinds that hold.
+pub(crate) fn that_hold<'k>(kinds: impl IntoIterator<Item = (&'k str, bool)>) -> Vec<String> {
+    let holding = kinds.into_iter().filter(|(_, holds)| *holds);
+    holding.map(|(kind, _)| kind.to_string()).collect()
 }
 
 /// An answer without what varies within its kind.

@@ -95,10 +95,9 @@ struct Writer {
 
 impl Writer {
     fn new(random: &mut Random, shape: Shape, book: &[u32]) -> Writer {
-        let pace = if random.one_in(2) {
-            Pace::growing(random)
-        } else {
-            Pace::probing(random)
+        let pace = match random.one_in(2) {
+            true => Pace::growing(random),
+            false => Pace::probing(random),
         };
         Writer {
             source: Source {
@@ -125,11 +124,7 @@ impl Writer {
                 break record;
             }
         };
-        let record = if self.source.random.one_in(40) {
-            any_numbers(&mut self.source.random, record)
-        } else {
-            record
-        };
+        let record = rarely_any_numbers(&mut self.source.random, record);
         let call = trace::call(&record).expect("the record of a call");
         // Refused records are part of a day.
         let _ = perform(&mut self.book, call);
@@ -137,8 +132,11 @@ impl Writer {
     }
 }
 
-/// Other numbers where the record has numbers.
-pub(crate) fn any_numbers(random: &mut Random, record: Record) -> Record {
+/// The record, or rarely one with other numbers where it has numbers.
+pub(crate) fn rarely_any_numbers(random: &mut Random, record: Record) -> Record {
+    if !random.one_in(40) {
+        return record;
+    }
     let mut other = record;
     for place in 1..RECORD_WORDS {
         let mut tried = other;

@@ -83,7 +83,7 @@ impl View for Words<'_> {
             return 0;
         }
         let block = &self.words[self.shape.block(grade)];
-        let total = number(&block[layout::total(self.shape.parity(stamp.into()))]);
+        let total = number(&block[layout::BOOK.total(self.shape.parity(stamp.into()))]);
         self.shape.capacity().saturating_sub(total)
     }
 

@@ -1,9 +1,10 @@
 //! Damage that 32-bit arithmetic cannot see: numbers that are right only modulo 2^32.
 
-use reference::layout::{LENGTH, OFFSET, SHAPE, SLOT_WORDS, WEIGHT};
+use reference::layout::{BOOK, LENGTH, OFFSET, SHAPE, SLOT_WORDS};
 use reference::shape::Shape;
+use reference::words::{number, write_number};
 
-use crate::places::Place;
+use crate::places::{add, weight, Place};
 use crate::random::Random;
 use crate::shapes::same_modulo_2_to_the_32;
 
@@ -39,14 +40,16 @@ fn count(random: &mut Random, shape: Shape, words: &mut [u32]) {
     words[count] = words[count].wrapping_add(parts.wrapping_mul(PART));
 }
 
-/// Two weights grow by 2^32 together: the sum comes out right, or a little less where F is not 0.
+/// Two weights grow together by 2^32, for each of their words: the sum comes out right, or a little less where F
+/// is not 0.
 fn weights(random: &mut Random, shape: Shape, words: &mut [u32]) {
     let place = Place::draw(random, shape);
     if let Some((low, high)) = place.neighbours(random, words) {
-        let any = random.word();
-        let grown = random.pick(&[1 << 31, u32::MAX, any]);
-        words[low + WEIGHT] = words[low + WEIGHT].wrapping_add(grown);
-        words[high + WEIGHT] = words[high + WEIGHT].wrapping_sub(grown);
+        let any = random.word().into();
+        let half = 1 << (32 * BOOK.number_words - 1);
+        let grown = random.pick(&[half, u64::MAX, any]);
+        add(&mut words[weight(low)], grown);
+        add(&mut words[weight(high)], grown.wrapping_neg());
     }
 }
 
@@ -57,9 +60,9 @@ fn ends(random: &mut Random, shape: Shape, words: &mut [u32]) {
     let round = random.pick(&[2, 2, 4, 8]);
     let count = round + 1;
     let place = Place::draw(random, shape);
-    let total = words[place.total];
+    let total = number(&words[place.total()]);
     // The level on which so many buckets can have this total.
-    let Some(index) = (total / count).checked_ilog2() else {
+    let Some(index) = (total / u64::from(count)).checked_ilog2() else {
         return;
     };
     if index == 0 || index > shape.m() || count > shape.n() {
@@ -72,10 +75,10 @@ fn ends(random: &mut Random, shape: Shape, words: &mut [u32]) {
     let mut rest = total;
     for turn in 0..count {
         let slot = place.slot(turn as usize);
-        let weight = rest / (count - turn);
-        rest -= weight;
+        let part = rest / u64::from(count - turn);
+        rest -= part;
         words[slot + OFFSET] = length * (turn % round);
         words[slot + LENGTH] = if turn < round { length } else { 1 << shape.k() };
-        words[slot + WEIGHT] = weight;
+        write_number(part, &mut words[weight(slot)]);
     }
 }

@@ -14,11 +14,10 @@ fn tally(answers: &[&str]) -> Tally {
 #[test]
 fn answers_are_counted_by_kind() {
     let tally = tally(&["ok", "= 0", "= 4294967295", "refused 1", "refused 12"]);
-    let kinds = ["ok", "=", "refused 1", "refused 12", "unread"];
-    assert_eq!(kinds.map(|kind| tally.count(kind)), [1, 2, 1, 1, 0]);
-    assert_eq!(tally.total(), 5);
     let shown = "ok: 1, =: 2, unread: 0, refused 1: 1, refused 2: 0, refused 3: 0, refused 12: 1";
     assert_eq!(tally.to_string(), shown);
+    assert_eq!([tally.count("="), tally.count("unread")], [2, 0]);
+    assert_eq!(tally.total(), 5);
 }
 
 #[test]
@@ -52,21 +51,7 @@ fn splits_of_accepted_deliveries_are_counted() {
     for splits in [0, 2, 0, 480] {
         tally.add_splits(Ok(Answer::Splits(splits)));
     }
-    assert_eq!(
-        tally.to_string(),
-        "no split: 2, one split: 0, several splits: 2"
-    );
+    let shown = "no split: 2, one split: 0, several splits: 2";
+    assert_eq!(tally.to_string(), shown);
     assert_eq!(tally.faults(), ["never occurred: one split"]);
-    tally.add_splits(Ok(Answer::Splits(1)));
-    assert!(tally.faults().is_empty());
-}
-
-#[test]
-fn any_kinds_are_counted() {
-    let mut tally = Tally::new(["grown", "built"], 2);
-    tally.add("grown");
-    assert!(tally.faults().is_empty());
-    tally.add("grown");
-    assert_eq!(tally.faults(), ["never occurred: built"]);
-    assert_eq!(tally.to_string(), "grown: 2, built: 0");
 }

@@ -1,7 +1,7 @@
 //! What C gets, which the safe calls cannot show: what is written where a call is refused.
 
 use super::archive;
-use draw::book::Book;
+use draw::book::{lent, Book};
 use draw::calls::Source;
 use draw::grounds;
 use draw::random::Random;
@@ -9,8 +9,11 @@ use draw::shapes::Makes;
 use draw::tally::Tally;
 use draw::trace::{day, Drawn};
 use draw::view::Words;
-use reference::calls::{deliver, Call};
+use reference::calls::{deliver, Answer, Call};
 use reference::ground::{ground, Finer, Ground};
+use reference::protocol::answer;
+use reference::replay::find_day;
+use reference::trace::days;
 
 /// The safe call cannot see this, a C program can.
 #[test]
@@ -55,26 +58,6 @@ fn a_ground_has_each_number_at_its_place() {
     assert_eq!(grounded(&book, 0, 3), (0, [4, 2, 12, 2, 2]));
 }
 
-#[test]
-fn a_refused_ground_writes_nothing() {
-    let mut book = p7();
-    let refused = |number| (number, UNWRITTEN);
-    for len in [0, 7, 8, 89] {
-        assert_eq!(grounded(&book[..len], 0, 0), refused(2), "{len}");
-    }
-    assert_eq!(grounded(&book, 1, 5), refused(3));
-    assert_eq!(grounded(&book, 0, 5), refused(5));
-    assert_eq!(grounded(&book, 0, u32::MAX), refused(5));
-    book[8] += 1;
-    assert_eq!(grounded(&book, 0, 5), refused(5));
-    for window in [0, 2, 3] {
-        assert_eq!(grounded(&book, 0, window), refused(11), "{window}");
-    }
-    book[7] = 1;
-    assert_eq!(grounded(&book, 1, 5), refused(7));
-    assert_eq!(grounded(&book[..7], 0, 3), refused(2));
-}
-
 /// The safe call drops the places of a refused ground, so no comparison through it would see a written
 /// one.
 #[test]
@@ -115,34 +98,18 @@ fn delivered(book: &mut [u32], [grade, stamp, volume]: [u32; 3]) -> (u32, u32) {
     (number, halvings)
 }
 
-#[test]
-fn a_delivery_has_its_halvings_and_a_refused_one_none() {
-    let mut book = vec![0; 90];
-    super::make(&mut book, 2, 2, 4, 1).unwrap();
-    super::clock(&mut book, 4).unwrap();
-    assert_eq!(delivered(&mut book, [0, 1, 16]), (0, 5));
-    assert_eq!(delivered(&mut book, [0, 1, 1]), (12, 0));
-    assert_eq!(delivered(&mut book, [0, 0, 1]), (9, 0));
-    assert_eq!(delivered(&mut book, [0, 5, 1]), (8, 0));
-    assert_eq!(delivered(&mut book, [0, 4, 0]), (4, 0));
-    assert_eq!(delivered(&mut book, [1, 4, 1]), (3, 0));
-    for len in [0, 7, 8, 89] {
-        assert_eq!(delivered(&mut book[..len], [0, 4, 1]), (2, 0), "{len}");
-    }
-    book[8] += 1;
-    assert_eq!(delivered(&mut book, [0, 4, 1]), (11, 0));
-    book[7] = 1;
-    assert_eq!(delivered(&mut book, [0, 4, 1]), (7, 0));
-}
-
 /// The safe call drops the halvings of a refused delivery, so no comparison through it would see a
 /// wrong number there.
 #[test]
 fn halvings_of_drawn_deliveries() {
     let random = &mut Random::new(2);
-    let (mut halved, mut refused) = (0, 0);
+    let numbers = [2, 3, 4, 7, 8, 9, 11, 12];
+    let mut refused = Tally::new(numbers.map(|number| answer(Err(number))), 1);
+    let mut splits = Tally::of_splits(1);
     for index in 0..4_000 {
-        let Book { shape, words, .. } = Book::draw(random, index);
+        let Book {
+            shape, mut words, ..
+        } = Book::draw(random, index);
         let mut source = Source::new(random.bits(), Makes::Same);
         let call = source.caller(&Words::new(shape, &words)).delivery();
         // Where the interval is full, a clock may be drawn instead.
@@ -154,15 +121,18 @@ fn halvings_of_drawn_deliveries() {
         else {
             continue;
         };
+        words.resize(lent(random, call, words.len(), 2), 0);
         let found = delivered(&mut words.clone(), [grade, stamp, volume]);
         let expected = deliver(&mut words.clone(), grade, stamp, volume);
-        let expected = expected.map_or_else(|number| (number, 0), |splits| (0, splits));
-        assert_eq!(found, expected, "{call:?} on {words:?}");
-        halved += usize::from(expected.1 > 0);
-        refused += usize::from(expected.0 > 0);
+        let both = expected.map_or_else(|number| (number, 0), |splits| (0, splits));
+        assert_eq!(found, both, "{call:?} on {words:?}");
+        splits.add_splits(expected.map(Answer::Splits));
+        if let Err(number) = expected {
+            refused.add(&answer(Err(number)));
+        }
     }
-    let met = [halved, refused];
-    assert!(met.iter().all(|count| *count > 300), "{met:?}");
+    let faults = [splits.faults(), refused.faults()].concat();
+    assert_eq!(faults, Vec::<String>::new());
 }
 
 /// What C gets for a day: number, start and length. The variables hold something else before, so
@@ -175,43 +145,24 @@ fn place(trace: &[u32], day: u32) -> (u32, usize, usize) {
     (number, start, length)
 }
 
-#[test]
-fn a_day_has_its_place_and_a_refused_one_is_nowhere() {
-    let trace = [2, 5, 0, 5, 4, 1, 3, 0, 0];
-    assert_eq!(place(&trace, 0), (0, 5, 0));
-    assert_eq!(place(&trace, 1), (0, 5, 4));
-    assert_eq!(place(&trace, 2), (14, 0, 0));
-    assert_eq!(place(&trace, u32::MAX), (14, 0, 0));
-    for len in 0..trace.len() {
-        assert_eq!(place(&trace[..len], 1), (13, 0, 0), "{len}");
-    }
-}
-
 /// The safe call drops the place of a refused day, so no comparison through it would see a wrong one.
 #[test]
 fn places_of_drawn_days() {
     let random = &mut Random::new(1);
-    let (mut found, mut broken, mut missing) = (0, 0, 0);
+    let mut met = Tally::new([0, 13, 14], 1);
     for index in 0..4_000 {
         let Book { shape, words, .. } = Book::draw(random, index);
         let drawn = Drawn::draw(random, shape, &words);
         let (trace, day) = (&drawn.words[..], day(random, drawn.count()));
-        let (number, start, length) = place(trace, day);
-        match reference::replay::find_day(trace, day) {
-            Ok(part) => {
-                assert_eq!(number, 0, "day {day} of {trace:?}");
-                let same = std::ptr::eq(part, &trace[start..start + length]);
-                assert!(same, "day {day} of {trace:?}: {start}, {length}");
-                found += 1;
+        let expected = match (find_day(trace, day), days(trace)) {
+            (Err(number), _) => (number, 0, 0),
+            (Ok(_), days) => {
+                let part = &days.expect("a sound trace")[day as usize];
+                (0, part.start, part.len())
             }
-            Err(refused) => {
-                let expected = (refused, 0, 0);
-                assert_eq!((number, start, length), expected, "day {day} of {trace:?}");
-                broken += usize::from(refused == 13);
-                missing += usize::from(refused == 14);
-            }
-        }
+        };
+        assert_eq!(place(trace, day), expected, "day {day} of {trace:?}");
+        met.add(&expected.0.to_string());
     }
-    let met = [found, broken, missing];
-    assert!(met.iter().all(|count| *count > 300), "{met:?}");
+    assert_eq!(met.faults(), Vec::<String>::new());
 }

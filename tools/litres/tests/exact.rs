@@ -1,8 +1,11 @@
 //! Exact sums on the site shape (document 02, request Seven): every window of up to n ticks on a busy book,
 //! and a wide window over a stretch with few stamps.
 
+mod common;
+
+use common::made;
 use draw::shapes::SITE;
-use litres::{clock, delivery, make, query, words};
+use litres::{clock, delivery, query};
 
 const N: u32 = SITE[1];
 /// Ticks of an interval.
@@ -17,11 +20,8 @@ struct Site {
 
 impl Site {
     fn new() -> Site {
-        let [k, n, m, g] = SITE;
-        let mut book = vec![0; words(k, n, m, g).unwrap()];
-        make(&mut book, k, n, m, g).unwrap();
         Site {
-            book,
+            book: made(SITE),
             now: 0,
             deliveries: Vec::new(),
         }

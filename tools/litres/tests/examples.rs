@@ -1,25 +1,13 @@
 //! The examples of document 01 through the archive, with the windows and the lateness of document 02,
-//! request One, the halvings of request Four and the grounds of request Six.
+//! request One, and the halvings of request Four. The grounds of request Six are in the crate's first page.
 
-use litres::{clock, delivery, ground, make, query, words, Finer, Ground, Refused};
+mod common;
 
-const SHAPE: [u32; 4] = [2, 2, 4, 1];
+use common::{after, made, DELIVERIES, EXAMPLE};
+use litres::{clock, delivery, ground, make, query, Refused};
+
 /// Words of a level with two slots.
 const LEVEL: usize = 8;
-/// Stamp and volume of the deliveries from P1 to P7.
-const DELIVERIES: [(u32, u32); 5] = [(0, 3), (3, 1), (1, 1), (1, 1), (2, 2)];
-
-/// The book at clock 3 after deliveries of (stamp, volume).
-fn after(deliveries: &[(u32, u32)]) -> Vec<u32> {
-    let [k, n, m, g] = SHAPE;
-    let mut book = vec![u32::MAX; 90];
-    make(&mut book, k, n, m, g).unwrap();
-    clock(&mut book, 3).unwrap();
-    for &(stamp, volume) in deliveries {
-        delivery(&mut book, 0, stamp, volume).unwrap();
-    }
-    book
-}
 
 /// The state in which P1, P2, P3, P6 or P7 leaves the book.
 fn example(number: usize) -> Vec<u32> {
@@ -32,20 +20,9 @@ fn level(book: &[u32], index: usize) -> &[u32] {
 }
 
 #[test]
-fn lengths() {
-    assert_eq!(words(2, 2, 4, 1), Some(90));
-    assert_eq!(words(20, 441, 24, 1), Some(66_260));
-    for [k, n, m, g] in [[1, 2, 4, 1], [2, 1025, 4, 1], [2, 2, 25, 1], [2, 2, 4, 9]] {
-        assert_eq!(words(k, n, m, g), None);
-    }
-    assert_eq!(words(u32::MAX, u32::MAX, u32::MAX, u32::MAX), None);
-}
-
-#[test]
 fn make_writes_an_empty_book() {
-    let [k, n, m, g] = SHAPE;
-    let mut book = vec![u32::MAX; 90];
-    make(&mut book, k, n, m, g).unwrap();
+    let book = made(EXAMPLE);
+    assert_eq!(book.len(), 90);
     assert_eq!(book[..10], [2, 2, 4, 1, 0, 0, 0, 0, 0, 0]);
     for (index, level) in book[10..].chunks(LEVEL).enumerate() {
         let whole = [1, 0, 0, 4, 0, 0, 0, 0];
@@ -68,30 +45,17 @@ fn p1_to_p3_and_p6_to_p8_levels() {
 
 #[test]
 fn p4_to_p7_windows() {
-    assert_eq!(query(&example(4), 0, 2), Ok(1));
-    assert_eq!(query(&example(5), 0, 3), Ok(2));
-    assert_eq!(query(&example(6), 0, 3), Ok(3));
-    assert_eq!(query(&example(7), 0, 2), Ok(3));
-    assert_eq!(query(&example(7), 0, 3), Ok(4));
-    assert_eq!(query(&example(7), 0, 4), Ok(8));
+    for (number, window, sum) in [
+        (4, 2, 1),
+        (5, 3, 2),
+        (6, 3, 3),
+        (7, 2, 3),
+        (7, 3, 4),
+        (7, 4, 8),
+    ] {
+        assert_eq!(query(&example(number), 0, window), Ok(sum), "P{number}");
+    }
     assert_eq!(query(&example(7), 0, 5), Err(Refused(5)));
-}
-
-#[test]
-fn p7_grounds() {
-    let book = example(7);
-    let expected = |sum, level, limit, finer| {
-        Ok(Ground {
-            sum,
-            level,
-            limit,
-            finer,
-        })
-    };
-    assert_eq!(ground(&book, 0, 0), expected(0, 0, 0, Finer::WindowZero));
-    assert_eq!(ground(&book, 0, 2), expected(3, 0, 0, Finer::LevelZero));
-    assert_eq!(ground(&book, 0, 3), expected(4, 2, 12, Finer::First(2)));
-    assert_eq!(ground(&book, 0, 5), Err(Refused(5)));
 }
 
 #[test]
@@ -109,46 +73,6 @@ fn window_0_answers_0_after_every_refusal() {
     assert_eq!(query(&book, 0, 0), Err(Refused(7)));
 }
 
-/// In the first interval and at the first tick after it; later such a window is too long.
-#[test]
-fn windows_as_long_as_the_clock() {
-    for now in 0..=9 {
-        let mut book = vec![0; 90];
-        make(&mut book, 2, 2, 4, 1).unwrap();
-        delivery(&mut book, 0, 0, 4).unwrap();
-        if now > 0 {
-            clock(&mut book, 1).unwrap();
-            delivery(&mut book, 0, 1, 2).unwrap();
-        }
-        clock(&mut book, now).unwrap();
-        let all = if now == 0 { 4 } else { 6 };
-        let expected = |window, sum| if window > 4 { Err(Refused(5)) } else { Ok(sum) };
-        assert_eq!(query(&book, 0, now), expected(now, all - 4), "{now}");
-        assert_eq!(query(&book, 0, now + 1), expected(now + 1, all), "{now}");
-        assert_eq!(query(&book, 0, now + 2), expected(now + 2, all), "{now}");
-    }
-}
-
-/// One delivery at each tick, read every `window` ticks: each counts once.
-#[test]
-fn windows_end_to_end() {
-    for window in [1, 2, 3, 4] {
-        // Four slots, one for each tick, so that each sum is exact.
-        let mut book = vec![0; words(2, 4, 9, 1).unwrap()];
-        make(&mut book, 2, 4, 9, 1).unwrap();
-        let (mut delivered, mut read) = (0, 0);
-        for now in 0..24 {
-            clock(&mut book, now).unwrap();
-            delivery(&mut book, 0, now, now + 1).unwrap();
-            delivered += u64::from(now + 1);
-            if (now + 1) % window == 0 {
-                read += query(&book, 0, window).unwrap();
-            }
-        }
-        assert_eq!(read, delivered, "{window}");
-    }
-}
-
 #[test]
 fn p1_to_p8_halvings() {
     let mut book = after(&[]);
@@ -157,15 +81,6 @@ fn p1_to_p8_halvings() {
     // On level 1 the second decilitre halves a bucket and evicts the half that it is in, on level 2 the
     // fourth halves one.
     assert_eq!(delivery(&mut example(2), 0, 0, 5), Ok(2));
-}
-
-/// Level 1 halves twice, then ignores the rest; level 2 halves once.
-#[test]
-fn halvings_of_a_first_delivery() {
-    let mut book = vec![0; words(3, 2, 6, 1).unwrap()];
-    make(&mut book, 3, 2, 6, 1).unwrap();
-    clock(&mut book, 7).unwrap();
-    assert_eq!(delivery(&mut book, 0, 1, 9), Ok(3));
 }
 
 #[test]

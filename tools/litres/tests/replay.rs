@@ -1,24 +1,23 @@
-//! Traces through the archive: the week of docs/SPECIFICATION.md, 18, and the refusals of a replay.
+//! Traces through the archive: the week of docs/SPECIFICATION.md, 18, and replays beside the second program.
 
-use draw::trace::EXAMPLE;
-use litres::{
-    find_day, make, replay, Refused, ANSWER_WORDS, KIND_CLOCK, KIND_DELIVERY, KIND_QUERY, MAX_DAYS,
-    RECORD_WORDS,
-};
+mod common;
 
-fn made() -> Vec<u32> {
-    let mut book = vec![u32::MAX; 90];
-    make(&mut book, 2, 2, 4, 1).unwrap();
-    book
-}
+use common::made;
+use draw::book::{other_length, Book};
+use draw::random::Random;
+use draw::tally::Tally;
+use draw::trace::{day, met, records, room, Drawn, EXAMPLE};
+use litres::{find_day, replay, Refused};
+use reference::protocol::answer;
+use reference::refusal;
 
 #[test]
 fn the_example() {
-    let mut book = made();
+    let mut book = made(common::EXAMPLE);
     let mut answers = [7; 11];
     assert_eq!(replay(&mut book, &EXAMPLE, 1, &mut answers), Ok(()));
     assert_eq!(answers, [0, 0, 0, 0, 0, 0, 0, 0, 0, 1, 7]);
-    let mut second = made();
+    let mut second = made(common::EXAMPLE);
     reference::replay::replay(&mut second, &EXAMPLE, 1, &mut [7; 10]).unwrap();
     assert_eq!(book, second);
 }
@@ -41,21 +40,6 @@ fn a_day_is_a_part_of_the_trace() {
     }
 }
 
-#[test]
-fn no_traces() {
-    let none: [&[u32]; 4] = [&[], &[0, 0], &[1, 3, 4, 3, 0, 2, 1], &[1, 3, 4, 4, 0, 0, 0]];
-    for trace in none {
-        for day in [0, 1, u32::MAX] {
-            assert_eq!(find_day(trace, day), Err(Refused::TRACE), "{trace:?}");
-            let (mut book, mut answers) = (made(), [7; 4]);
-            let refused = replay(&mut book, trace, day, &mut answers);
-            assert_eq!(refused, Err(Refused::TRACE), "{trace:?}");
-            assert_eq!((book, answers), (made(), [7; 4]));
-        }
-    }
-    assert_eq!(find_day(&[0], 0), Err(Refused::DAY));
-}
-
 /// Every word of the example is looked at, but for the numbers of its calls.
 #[test]
 fn a_word_changed() {
@@ -73,76 +57,50 @@ fn a_word_changed() {
 }
 
 #[test]
-fn every_room() {
-    for room in 0..=12 {
-        let (mut book, mut answers) = (made(), vec![7; room]);
-        let reply = replay(&mut book, &EXAMPLE, 1, &mut answers);
-        if room < 10 {
-            assert_eq!(reply, Err(Refused::ROOM), "{room}");
-            assert_eq!((book, answers), (made(), vec![7; room]));
-        } else {
-            assert_eq!(reply, Ok(()), "{room}");
-            assert!(answers[10..].iter().all(|word| *word == 7));
-        }
-    }
-}
-
-#[test]
 fn an_empty_day_needs_no_room() {
-    let mut book = made();
+    let mut book = made(common::EXAMPLE);
     assert_eq!(replay(&mut book, &EXAMPLE, 0, &mut []), Ok(()));
-    assert_eq!(book, made());
+    assert_eq!(book, made(common::EXAMPLE));
     assert_eq!(replay(&mut [], &EXAMPLE, 0, &mut []), Ok(()));
     assert_eq!(replay(&mut [], &[0], 0, &mut []), Err(Refused::DAY));
     assert_eq!(replay(&mut [], &[], 0, &mut []), Err(Refused::TRACE));
 }
 
+/// Every fault of a trace, every room and refused records, on books of every kind, some of them short. What a
+/// refused replay leaves is compared too.
 #[test]
-fn a_short_or_damaged_book_refuses_each_record() {
-    let mut damaged = made();
-    damaged[7] = 1;
-    let books = [(vec![], 2), (made()[..89].to_vec(), 2), (damaged, 7)];
-    for (book, number) in books {
-        let (mut words, mut answers) = (book.clone(), [9; 10]);
-        assert_eq!(replay(&mut words, &EXAMPLE, 1, &mut answers), Ok(()));
-        assert_eq!(answers, [number, 0].repeat(5)[..]);
-        assert_eq!(words, book);
+fn drawn_replays() {
+    let random = &mut Random::new(4);
+    let mut kinds = Tally::new(met::all(), 1);
+    // No record is a make.
+    let numbers = refusal::CALLS.filter(|number| *number != refusal::SHAPE);
+    let mut answers = Tally::of_answers(numbers, &[], 1);
+    for index in 0..12_000 {
+        let Book {
+            shape, mut words, ..
+        } = Book::draw(random, index);
+        if words.len() > 1_000 {
+            continue;
+        }
+        let trace = Drawn::draw(random, shape, &words).words;
+        let day = day(random, trace.first().copied().unwrap_or(0));
+        let room = room(random, records(&trace, day));
+        if random.one_in(8) {
+            words.resize(other_length(random, words.len(), 2), 0);
+        }
+        let mut ours = (words, vec![7; room]);
+        let mut second = ours.clone();
+        let found = replay(&mut ours.0, &trace, day, &mut ours.1);
+        let expected = reference::replay::replay(&mut second.0, &trace, day, &mut second.1);
+        assert_eq!(found.err(), expected.as_ref().err().copied().map(Refused));
+        assert_eq!(ours, second, "day {day} of {trace:?}");
+        for reply in expected.unwrap_or_default() {
+            answers.add_answer(&answer(reply));
+        }
+        for kind in met::kinds(&trace, day, room) {
+            kinds.add(&kind);
+        }
     }
-}
-
-/// The records after a refused one are run.
-#[test]
-fn refused_records() {
-    let trace = [
-        &[1, 3, 5 * RECORD_WORDS as u32][..],
-        &[KIND_CLOCK, 3, 0, 0],
-        &[KIND_DELIVERY, 9, 3, 1],
-        &[KIND_QUERY, 0, 5, 0],
-        &[KIND_DELIVERY, 0, 3, 4],
-        &[KIND_QUERY, 0, 1, 0],
-    ]
-    .concat();
-    let mut answers = [7; 5 * ANSWER_WORDS];
-    replay(&mut made(), &trace, 0, &mut answers).unwrap();
-    assert_eq!(answers, [0, 0, 3, 0, 5, 0, 0, 0, 0, 4]);
-}
-
-#[test]
-fn most_days() {
-    for count in [0, 1, MAX_DAYS, MAX_DAYS + 1] {
-        let end = 1 + 2 * count;
-        let mut trace = vec![count];
-        (0..count).for_each(|_| trace.extend([end, 0]));
-        let expected = match count {
-            0 => Err(Refused::DAY),
-            count if count > MAX_DAYS => Err(Refused::TRACE),
-            _ => Ok(&[][..]),
-        };
-        assert_eq!(find_day(&trace, 0), expected, "{count}");
-        assert_eq!(
-            find_day(&trace, count.saturating_sub(1)),
-            expected,
-            "{count}"
-        );
-    }
+    assert_eq!(kinds.faults(), Vec::<String>::new());
+    assert_eq!(answers.faults(), Vec::<String>::new());
 }

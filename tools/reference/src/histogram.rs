@@ -27,7 +27,7 @@ impl Bucket {
     }
 
     /// Two buckets of half the length and half the weight (document 01's halving).
-    fn split(self) -> [Bucket; 2] {
+    pub fn split(self) -> [Bucket; 2] {
         let (length, weight) = (self.length / 2, self.weight / 2);
         [self.offset, self.offset + length].map(|offset| Bucket {
             offset,

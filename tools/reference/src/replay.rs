@@ -1,11 +1,12 @@
 //! Finding a day of a trace and replaying it (document 02, request Two).
 
 use crate::calls::{perform, Answer, Call, Reply};
+use crate::layout::{NUMBER, SUM};
 use crate::refusal::{self, when};
 use crate::trace;
+use crate::words::write_number;
 
-/// Words of the answer to a record: the number of its refusal or 0, then its sum or 0.
-pub const ANSWER_WORDS: usize = 2;
+pub use crate::layout::ANSWER_WORDS;
 
 /// The words of a day, as that part of the trace.
 pub fn find_day(trace: &[u32], day: u32) -> Result<&[u32], u32> {
@@ -40,12 +41,11 @@ pub fn calls(trace: &[u32], day: u32, room: usize) -> Result<Vec<Call>, u32> {
 
 /// What is written for a record that was answered so.
 pub fn answer_words(reply: Reply) -> [u32; ANSWER_WORDS] {
+    let mut words = [0; ANSWER_WORDS];
     match reply {
-        Ok(Answer::Done | Answer::Splits(_)) => [0, 0],
-        Ok(Answer::Sum(sum)) => [
-            0,
-            u32::try_from(sum).expect("two halves hold less than 2^32"),
-        ],
-        Err(number) => [number, 0],
+        Ok(Answer::Done | Answer::Splits(_)) => {}
+        Ok(Answer::Sum(sum)) => write_number(sum, &mut words[SUM..]),
+        Err(number) => words[NUMBER] = number,
     }
+    words
 }

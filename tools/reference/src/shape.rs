@@ -1,9 +1,8 @@
-//! The shape, its limits and the lengths that follow from it (document 01, "Words and limits" and
-//! the layout in "The book").
+//! The shape, its limits and the lengths that follow from it (document 01, "Words and limits").
 
 use std::ops::Range;
 
-use crate::layout::{BLOCK_HEAD_WORDS, HEAD_WORDS, LEVEL_HEAD_WORDS, SLOT_WORDS};
+use crate::layout::BOOK;
 use crate::window::opening;
 
 /// A shape within its limits.
@@ -32,6 +31,13 @@ impl Shape {
     pub const G_MIN: u32 = 1;
     /// Most grades.
     pub const G_MAX: u32 = 8;
+    /// The least and the greatest k, n, M and g.
+    pub const LIMITS: [[u32; 2]; 4] = [
+        [Self::K_MIN, Self::K_MAX],
+        [Self::N_MIN, Self::N_MAX],
+        [Self::M_MIN, Self::M_MAX],
+        [Self::G_MIN, Self::G_MAX],
+    ];
     /// Latest tick that the clock can show.
     pub const CLOCK_MAX: u32 = 2_000_000_000;
     /// Largest volume of one delivery.
@@ -39,10 +45,8 @@ impl Shape {
 
     /// The shape of these four numbers, or nothing where one is outside its limits.
     pub fn new(k: u32, n: u32, m: u32, g: u32) -> Option<Shape> {
-        let within = (Self::K_MIN..=Self::K_MAX).contains(&k)
-            && (Self::N_MIN..=Self::N_MAX).contains(&n)
-            && (Self::M_MIN..=Self::M_MAX).contains(&m)
-            && (Self::G_MIN..=Self::G_MAX).contains(&g);
+        let mut limits = [k, n, m, g].into_iter().zip(Self::LIMITS);
+        let within = limits.all(|(number, [least, most])| (least..=most).contains(&number));
         within.then_some(Shape { k, n, m, g })
     }
 
@@ -57,7 +61,7 @@ impl Shape {
     }
 
     /// The slots of a level.
-    pub fn n(self) -> u32 {
+    pub const fn n(self) -> u32 {
         self.n
     }
 
@@ -67,7 +71,7 @@ impl Shape {
     }
 
     /// The count of grades.
-    pub fn g(self) -> u32 {
+    pub const fn g(self) -> u32 {
         self.g
     }
 
@@ -108,35 +112,32 @@ impl Shape {
     }
 
     /// Levels of a histogram, level 0 included.
-    pub fn levels(self) -> usize {
+    pub const fn levels(self) -> usize {
         self.m as usize + 1
     }
 
     /// Words of a level.
     pub fn level_length(self) -> usize {
-        LEVEL_HEAD_WORDS + SLOT_WORDS * self.n as usize
+        BOOK.level_words(self)
     }
 
     /// Words of a grade's block.
     pub fn block_length(self) -> usize {
-        BLOCK_HEAD_WORDS + 2 * self.levels() * self.level_length()
+        BOOK.block_words(self)
     }
 
     /// Words of the whole book.
     pub fn book_length(self) -> usize {
-        HEAD_WORDS + self.g as usize * self.block_length()
+        BOOK.book_words(self)
     }
 
     /// The words of a grade's block within the book.
     pub fn block(self, grade: u32) -> Range<usize> {
-        let start = HEAD_WORDS + grade as usize * self.block_length();
-        start..start + self.block_length()
+        BOOK.block(self, grade)
     }
 
     /// The words of one level within a block.
     pub fn level(self, parity: usize, index: usize) -> Range<usize> {
-        let before = parity * self.levels() + index;
-        let start = BLOCK_HEAD_WORDS + before * self.level_length();
-        start..start + self.level_length()
+        BOOK.level(self, parity, index)
     }
 }

@@ -1,8 +1,9 @@
 //! Which heads and blocks are sound, condition by condition (document 01, refusal 7 and the last
-//! paragraph of "Turned down by the state"). Words of any content are taken: all sums are of at
-//! most 1,024 numbers below 2^32 and stay far below 2^64.
+//! paragraph of "Turned down by the state"). Words of any content are taken: a sum of up to 1,024
+//! weights, each below 2^64, is kept in 128 bits.
 
 use crate::histogram::Bucket;
+use crate::layout::{Layout, BOOK};
 use crate::shape::Shape;
 use crate::words::{RawHead, RawHistogram, RawLevel};
 
@@ -47,12 +48,19 @@ pub enum Fault {
     Light,
 }
 
-/// The shape and the clock of a sound head.
+impl Layout {
+    /// The shape and the clock of a head that is sound in this layout.
+    pub fn sound_head(self, head: RawHead) -> Option<(Shape, u32)> {
+        let [k, n, m, g] = head.shape;
+        let shape = Shape::new(k, n, m, g)?;
+        let sound = head.clock <= Shape::CLOCK_MAX && head.padding == self.padding();
+        sound.then_some((shape, head.clock))
+    }
+}
+
+/// The shape and the clock of a book's sound head.
 pub fn sound_head(head: RawHead) -> Option<(Shape, u32)> {
-    let [k, n, m, g] = head.shape;
-    let shape = Shape::new(k, n, m, g)?;
-    let sound = head.clock <= Shape::CLOCK_MAX && head.padding == [0; 3];
-    sound.then_some((shape, head.clock))
+    BOOK.sound_head(head)
 }
 
 /// Whether a block meets every condition.
@@ -91,7 +99,8 @@ fn any_level(shape: Shape, total: u64, level: &RawLevel) -> [(Fault, bool); 5] {
         length: 0,
         weight: 0,
     };
-    let weights: u64 = level.buckets().iter().map(|b| b.weight).sum();
+    let weights: u128 = level.buckets().iter().map(|b| u128::from(b.weight)).sum();
+    let total = u128::from(total);
     let n = u64::from(shape.n());
     [
         (Fault::Count, level.count <= n),

@@ -1,4 +1,4 @@
-//! Traces of recorded days (document 02, request Two): how the words are laid out, and a record as a
+//! Traces of recorded days (document 02, request Two): whether the words are laid out, and a record as a
 //! call. A trace may have any words, so places are added up in 64 bits, where no sum of them wraps.
 
 use std::fmt::{self, Display, Formatter};
@@ -6,21 +6,10 @@ use std::ops::Range;
 
 use crate::calls::Call;
 
-/// Most days of a trace.
-pub const DAYS_MAX: u32 = 64;
-/// Words before the pairs: the count of days.
-pub const COUNT_WORDS: usize = 1;
-/// Words of a pair: the offset and the length of a day.
-pub const PAIR_WORDS: usize = 2;
-/// Words of a record: its kind, then the numbers of its call, then zeros.
-pub const RECORD_WORDS: usize = 4;
-
-/// The kind of a record that sets the clock.
-pub const CLOCK: u32 = 1;
-/// The kind of a record that delivers.
-pub const DELIVERY: u32 = 2;
-/// The kind of a record that asks.
-pub const QUERY: u32 = 3;
+pub use crate::layout::{
+    COUNT_WORDS, DAYS_MAX, KIND_CLOCK as CLOCK, KIND_DELIVERY as DELIVERY, KIND_QUERY as QUERY,
+    PAIR_WORDS, RECORD_WORDS,
+};
 
 /// The words of one record.
 pub type Record = [u32; RECORD_WORDS];

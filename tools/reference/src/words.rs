@@ -2,7 +2,7 @@
 //! book"). Decoding takes words of any content; whether they are sound is asked of what it gives.
 
 use crate::histogram::{Bucket, Histogram, Level};
-use crate::layout;
+use crate::layout::{self, Layout, BOOK};
 use crate::shape::Shape;
 
 /// The words of a head as they stand.
@@ -12,7 +12,7 @@ pub struct RawHead {
     pub shape: [u32; 4],
     /// The clock.
     pub clock: u32,
-    /// The words that should be zero.
+    /// The words that should be the layout's mark and zeros.
     pub padding: [u32; 3],
 }
 
@@ -66,7 +66,64 @@ impl RawHistogram {
     }
 }
 
-/// Reads the head from at least as many words as it has.
+impl Layout {
+    /// Writes a head into the first words.
+    pub fn encode_head(self, shape: Shape, clock: u32, words: &mut [u32]) {
+        words[layout::SHAPE].copy_from_slice(&shape.numbers());
+        words[layout::CLOCK] = clock;
+        words[layout::PADDING].copy_from_slice(&self.padding());
+    }
+
+    /// Reads one level from exactly its words.
+    fn decode_level(self, words: &[u32]) -> RawLevel {
+        let (head, slots) = words.split_at(layout::LEVEL_HEAD_WORDS);
+        let bucket = |slot: &[u32]| Bucket {
+            offset: slot[layout::OFFSET].into(),
+            length: slot[layout::LENGTH].into(),
+            weight: number(&slot[layout::WEIGHT..]),
+        };
+        RawLevel {
+            count: head[layout::COUNT].into(),
+            first: head[layout::FIRST].into(),
+            slots: slots.chunks(self.slot_words()).map(bucket).collect(),
+        }
+    }
+
+    /// Writes one level over exactly its words; slots without a bucket become zero.
+    fn encode_level(self, level: &Level, words: &mut [u32]) {
+        words.fill(0);
+        let (head, slots) = words.split_at_mut(layout::LEVEL_HEAD_WORDS);
+        head[layout::COUNT] = word(level.buckets.len() as u64);
+        head[layout::FIRST] = word(level.first);
+        let places = slots.chunks_mut(self.slot_words());
+        for (slot, bucket) in places.zip(&level.buckets) {
+            slot[layout::OFFSET] = word(bucket.offset);
+            slot[layout::LENGTH] = word(bucket.length);
+            write_number(bucket.weight, &mut slot[layout::WEIGHT..]);
+        }
+    }
+
+    /// Reads the even and the odd histogram from exactly the words of a block.
+    pub fn decode_block(self, shape: Shape, words: &[u32]) -> [RawHistogram; 2] {
+        let level = |parity, index| self.decode_level(&words[self.level(shape, parity, index)]);
+        [0, 1].map(|parity| RawHistogram {
+            total: number(&words[self.total(parity)]),
+            levels: (0..shape.levels()).map(|i| level(parity, i)).collect(),
+        })
+    }
+
+    /// Writes both histograms over exactly the words of a block.
+    pub fn encode_block(self, shape: Shape, block: &[Histogram; 2], words: &mut [u32]) {
+        for (parity, histogram) in block.iter().enumerate() {
+            write_number(histogram.total, &mut words[self.total(parity)]);
+            for (index, level) in histogram.levels.iter().enumerate() {
+                self.encode_level(level, &mut words[self.level(shape, parity, index)]);
+            }
+        }
+    }
+}
+
+/// Reads the head from at least as many words as it has, which every layout lays out alike.
 pub fn decode_head(words: &[u32]) -> RawHead {
     RawHead {
         shape: words[layout::SHAPE].try_into().expect("four words"),
@@ -75,59 +132,19 @@ pub fn decode_head(words: &[u32]) -> RawHead {
     }
 }
 
-/// Writes a head into the first words.
+/// Writes the head of a book into the first words.
 pub fn encode_head(shape: Shape, clock: u32, words: &mut [u32]) {
-    words[layout::SHAPE].copy_from_slice(&shape.numbers());
-    words[layout::CLOCK] = clock;
-    words[layout::PADDING].fill(0);
+    BOOK.encode_head(shape, clock, words);
 }
 
-/// Reads one level from exactly its words.
-pub fn decode_level(words: &[u32]) -> RawLevel {
-    let (head, slots) = words.split_at(layout::LEVEL_HEAD_WORDS);
-    let bucket = |slot: &[u32]| Bucket {
-        offset: slot[layout::OFFSET].into(),
-        length: slot[layout::LENGTH].into(),
-        weight: number(&slot[layout::WEIGHT..]),
-    };
-    RawLevel {
-        count: head[layout::COUNT].into(),
-        first: head[layout::FIRST].into(),
-        slots: slots.chunks(layout::SLOT_WORDS).map(bucket).collect(),
-    }
-}
-
-/// Writes one level over exactly its words; slots without a bucket become zero.
-pub fn encode_level(level: &Level, words: &mut [u32]) {
-    words.fill(0);
-    let (head, slots) = words.split_at_mut(layout::LEVEL_HEAD_WORDS);
-    head[layout::COUNT] = word(level.buckets.len() as u64);
-    head[layout::FIRST] = word(level.first);
-    for (slot, bucket) in slots.chunks_mut(layout::SLOT_WORDS).zip(&level.buckets) {
-        slot[layout::OFFSET] = word(bucket.offset);
-        slot[layout::LENGTH] = word(bucket.length);
-        write(bucket.weight, &mut slot[layout::WEIGHT..]);
-    }
-}
-
-/// Reads the even and the odd histogram from exactly the words of a block.
+/// Reads a book's block.
 pub fn decode_block(shape: Shape, words: &[u32]) -> [RawHistogram; 2] {
-    [0, 1].map(|parity| RawHistogram {
-        total: number(&words[layout::total(parity)]),
-        levels: (0..shape.levels())
-            .map(|index| decode_level(&words[shape.level(parity, index)]))
-            .collect(),
-    })
+    BOOK.decode_block(shape, words)
 }
 
-/// Writes both histograms over exactly the words of a block.
+/// Writes a book's block.
 pub fn encode_block(shape: Shape, block: &[Histogram; 2], words: &mut [u32]) {
-    for (parity, histogram) in block.iter().enumerate() {
-        write(histogram.total, &mut words[layout::total(parity)]);
-        for (index, level) in histogram.levels.iter().enumerate() {
-            encode_level(level, &mut words[shape.level(parity, index)]);
-        }
-    }
+    BOOK.encode_block(shape, block, words);
 }
 
 /// The number of one or two words, the low one first.
@@ -137,7 +154,7 @@ pub fn number(words: &[u32]) -> u64 {
 }
 
 /// Writes a number over one or two words.
-fn write(number: u64, words: &mut [u32]) {
+pub fn write_number(number: u64, words: &mut [u32]) {
     let mut rest = number;
     for word in words {
         *word = rest as u32;

@@ -1,25 +1,37 @@
 //! What the clock empties: nothing, one histogram of every grade, or both.
 
-use reference::calls::{clock, deliver, make, query};
+mod common;
+
+use common::{assert_sums, feed, made};
+use draw::shapes::{within, Numbers};
+use reference::calls::{clock, deliver, query};
 use reference::histogram::Histogram;
 use reference::layout;
 use reference::shape::Shape;
 use reference::words::{decode_block, encode_block};
 
+const NUMBERS: Numbers = [2, 3, 5, 3];
+
 fn shape() -> Shape {
-    Shape::new(2, 3, 5, 3).unwrap()
+    within(NUMBERS)
 }
 
 /// Three grades at clock 5, with a delivery at each tick from 1 on, so in both intervals.
 fn book() -> Vec<u32> {
-    let mut words = vec![0; shape().book_length()];
-    make(&mut words, 2, 3, 5, 3).unwrap();
+    let mut words = made(NUMBERS);
     for now in 1..=5 {
         clock(&mut words, now).unwrap();
         for grade in 0..3 {
             deliver(&mut words, grade, now, 2 + grade).unwrap();
         }
     }
+    words
+}
+
+/// The book after a later clock.
+fn moved(new: u32) -> Vec<u32> {
+    let mut words = book();
+    clock(&mut words, new).unwrap();
     words
 }
 
@@ -41,34 +53,27 @@ fn emptied(mut words: Vec<u32>, new: u32, parities: &[usize]) -> Vec<u32> {
 #[test]
 fn clock_within_the_interval_changes_one_word() {
     for new in [5, 6, 7] {
-        let mut words = book();
-        clock(&mut words, new).unwrap();
         let mut expected = book();
         expected[layout::CLOCK] = new;
-        assert_eq!(words, expected);
+        assert_eq!(moved(new), expected);
     }
 }
 
 #[test]
 fn next_interval_empties_its_parity() {
     for new in 8..=11 {
-        let mut words = book();
-        clock(&mut words, new).unwrap();
-        assert_eq!(words, emptied(book(), new, &[0]));
+        assert_eq!(moved(new), emptied(book(), new, &[0]));
     }
-    let mut words = book();
-    clock(&mut words, 8).unwrap();
-    let even = words.clone();
+    let mut words = moved(8);
     clock(&mut words, 12).unwrap();
-    assert_eq!(words, emptied(even, 12, &[1]));
+    assert_eq!(words, emptied(moved(8), 12, &[1]));
 }
 
 #[test]
 fn skipped_interval_empties_both() {
     // Interval 3 has the parity of the interval that it leaves, interval 4 the other one.
     for new in [12, 13, 15, 16, 19, 20, 1000, 2_000_000_000] {
-        let mut words = book();
-        clock(&mut words, new).unwrap();
+        let words = moved(new);
         assert_eq!(words, emptied(book(), new, &[0, 1]));
         for grade in 0..3 {
             assert_eq!(query(&words, grade, 4), Ok(0));
@@ -81,7 +86,7 @@ fn all_grades_are_inspected_before_any_is_emptied() {
     for grade in 0..3 {
         for parity in 0..2 {
             let mut words = book();
-            words[shape().block(grade).start + parity] += 1;
+            words[shape().block(grade)][layout::BOOK.total(parity).start] += 1;
             for new in [5, 6, 8, 12] {
                 let before = words.clone();
                 assert_eq!(clock(&mut words, new), Err(11));
@@ -93,33 +98,18 @@ fn all_grades_are_inspected_before_any_is_emptied() {
 
 #[test]
 fn window_into_the_interval_before_adds_the_current_total() {
-    let words = book();
     // Stamps 1 to 5 carry 2 each; stamps 4 and 5 are in the current interval, 1 in no window.
-    for (window, sum) in [(0, 0), (1, 2), (2, 4), (3, 6), (4, 8)] {
-        assert_eq!(query(&words, 0, window), Ok(sum), "window {window}");
-    }
-    let mut words = book();
-    clock(&mut words, 7).unwrap();
-    for (window, sum) in [(0, 0), (1, 0), (2, 0), (3, 2), (4, 4)] {
-        assert_eq!(query(&words, 0, window), Ok(sum), "window {window}");
-    }
+    assert_sums(&book(), &[(0, 0), (1, 2), (2, 4), (3, 6), (4, 8)]);
+    assert_sums(&moved(7), &[(0, 0), (1, 0), (2, 0), (3, 2), (4, 4)]);
 }
 
 #[test]
 fn window_longer_than_the_clock_opens_at_0() {
-    let mut words = vec![0; shape().book_length()];
-    make(&mut words, 2, 3, 5, 3).unwrap();
-    for window in 0..=4 {
-        assert_eq!(query(&words, 0, window), Ok(0));
-    }
-    deliver(&mut words, 0, 0, 5).unwrap();
-    for (window, sum) in [(0, 0), (1, 5), (2, 5), (4, 5)] {
-        assert_eq!(query(&words, 0, window), Ok(sum), "window {window}");
-    }
-    clock(&mut words, 2).unwrap();
-    deliver(&mut words, 0, 2, 1).unwrap();
+    let mut words = made(NUMBERS);
+    assert_sums(&words, &[(0, 0), (1, 0), (2, 0), (3, 0), (4, 0)]);
+    feed(&mut words, 0, &[(0, 5)]);
+    assert_sums(&words, &[(0, 0), (1, 5), (2, 5), (4, 5)]);
+    feed(&mut words, 2, &[(2, 1)]);
     // Window 2 opens at 1, window 3 at 0 and window 4 no earlier.
-    for (window, sum) in [(0, 0), (1, 1), (2, 1), (3, 6), (4, 6)] {
-        assert_eq!(query(&words, 0, window), Ok(sum), "window {window}");
-    }
+    assert_sums(&words, &[(0, 0), (1, 1), (2, 1), (3, 6), (4, 6)]);
 }

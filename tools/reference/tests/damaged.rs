@@ -1,25 +1,27 @@
 //! Words that no call wrote: sound books that no run of calls reaches, random words, damaged books,
 //! and deliveries beside the damaged block of another grade.
 
+mod common;
+
+use common::{assert_sums, made};
 use draw::calls::Source;
 use draw::damage::any_word;
 use draw::pace::Pace;
 use draw::random::Random;
-use draw::shapes::Makes;
+use draw::shapes::{within, Makes};
 use draw::view::Words;
-use reference::calls::{clock, deliver, make, perform, query, Call};
+use reference::calls::{clock, deliver, perform, query, Call};
 use reference::histogram::Histogram;
 use reference::layout::{CLOCK, HEAD_WORDS};
 use reference::ledger::Ledger;
 use reference::shape::Shape;
 use reference::soundness::block_faults;
-use reference::words::{decode_block, encode_block};
+use reference::words::{decode_block, encode_block, encode_head};
 
 #[test]
 fn sound_words_that_no_run_reaches_are_accepted() {
-    let shape = Shape::new(2, 2, 3, 1).unwrap();
-    let mut words = vec![0; shape.book_length()];
-    make(&mut words, 2, 2, 3, 1).unwrap();
+    let shape = within([2, 2, 3, 1]);
+    let mut words = made([2, 2, 3, 1]);
     // Clock 1 in interval 0: stamps ahead, an odd interval, levels that contradict each other.
     words[CLOCK] = 1;
     let levels = [
@@ -32,11 +34,10 @@ fn sound_words_that_no_run_reaches_are_accepted() {
         words[8 + parity] = 4;
         words[8..][shape.level(parity, index)].copy_from_slice(&level);
     }
-    assert_eq!(query(&words, 0, 1), Ok(4));
+    assert_sums(&words, &[(1, 4)]);
     deliver(&mut words, 0, 1, 2).unwrap();
-    assert_eq!(query(&words, 0, 1), Ok(6));
     // Window 0 does not count what lies past the clock either.
-    assert_eq!(query(&words, 0, 0), Ok(0));
+    assert_sums(&words, &[(1, 6), (0, 0)]);
     let expected = [
         [2, 0, 1, 1, 2, 3, 1, 4],
         [2, 2, 2, 1, 2, 3, 1, 2],
@@ -45,8 +46,7 @@ fn sound_words_that_no_run_reaches_are_accepted() {
     assert_eq!(words[10..34], expected.concat());
     // In interval 1 the odd histogram goes; the even one still answers as the older one.
     clock(&mut words, 5).unwrap();
-    assert_eq!(query(&words, 0, 4), Ok(4));
-    assert_eq!(query(&words, 0, 2), Ok(0));
+    assert_sums(&words, &[(4, 4), (2, 0)]);
 }
 
 fn random_histogram(random: &mut Random, shape: Shape, total: u64) -> Histogram {
@@ -59,7 +59,7 @@ fn random_histogram(random: &mut Random, shape: Shape, total: u64) -> Histogram 
 
 #[test]
 fn levels_mixed_from_two_histories_stay_sound() {
-    let shape = Shape::new(4, 3, 6, 1).unwrap();
+    let shape = within([4, 3, 6, 1]);
     let mut random = Random::new(1);
     for _ in 0..300 {
         let mut block = [0, 1].map(|_| Histogram::empty(shape));
@@ -73,8 +73,7 @@ fn levels_mixed_from_two_histories_stay_sound() {
                 }
             }
         }
-        let mut words = vec![0; shape.book_length()];
-        make(&mut words, 4, 3, 6, 1).unwrap();
+        let mut words = made(shape.numbers());
         words[CLOCK] = random.between(16, 47);
         encode_block(shape, &block, &mut words[shape.block(0)]);
         for _ in 0..20 {
@@ -99,6 +98,16 @@ fn perform_checked(words: &mut [u32], call: Call) -> Result<(), u32> {
     answer.map(|_| ())
 }
 
+/// Up to so many calls on an empty book, some of them refused.
+fn grown(source: &mut Source, shape: Shape, most: u64) -> Vec<u32> {
+    let mut words = made(shape.numbers());
+    for _ in 0..source.random.below(most) {
+        let call = source.call(&Words::new(shape, &words));
+        let _ = perform_checked(&mut words, call);
+    }
+    words
+}
+
 fn source(seed: u64) -> Source {
     let mut source = Source::new(seed, Makes::Same);
     source.pace = Pace {
@@ -112,12 +121,11 @@ fn source(seed: u64) -> Source {
 
 #[test]
 fn random_words_of_any_length() {
-    let shape = Shape::new(2, 2, 2, 1).unwrap();
+    let shape = within([2, 2, 2, 1]);
     let mut source = source(2);
     let mut empty = Ledger::new(shape);
-    empty
-        .perform(Call::Clock { clock: 7 }, shape.book_length())
-        .unwrap();
+    let clock = Call::Clock { clock: 7 };
+    empty.perform(clock, shape.book_length()).unwrap();
     for _ in 0..100_000 {
         let length = source.random.below(140) as usize;
         let mut words = vec![0; length];
@@ -130,7 +138,8 @@ fn random_words_of_any_length() {
         }
         // Some get a sound head, so that the blocks are inspected as well.
         if length == shape.book_length() || source.random.one_in(2) {
-            let head = [2, 2, 2, 1, 7, 0, 0, 0];
+            let mut head = [0; HEAD_WORDS];
+            encode_head(shape, 7, &mut head);
             words.iter_mut().zip(head).for_each(|(word, h)| *word = h);
         }
         let call = source.call(&empty);
@@ -141,16 +150,11 @@ fn random_words_of_any_length() {
 
 #[test]
 fn grown_books_with_damaged_words() {
-    let shape = Shape::new(3, 3, 5, 2).unwrap();
+    let shape = within([3, 3, 5, 2]);
     let mut source = source(3);
     let (mut accepted, mut refused) = ([0; 2], [0; 13]);
     for _ in 0..4000 {
-        let mut words = vec![0; shape.book_length()];
-        make(&mut words, 3, 3, 5, 2).unwrap();
-        for _ in 0..source.random.below(60) {
-            let call = source.call(&Words::new(shape, &words));
-            let _ = perform_checked(&mut words, call);
-        }
+        let mut words = grown(&mut source, shape, 60);
         for _ in 0..=source.random.below(3) {
             any_word(&mut source.random, &mut words[HEAD_WORDS..]);
         }
@@ -178,16 +182,11 @@ fn other_answers(shape: Shape, words: &[u32], grade: u32) -> Vec<Result<u64, u32
 
 #[test]
 fn delivery_touches_no_other_grade() {
-    let shape = Shape::new(3, 3, 5, 3).unwrap();
+    let shape = within([3, 3, 5, 3]);
     let mut source = source(4);
     let mut beside_unsound = 0;
     for round in 0..1500 {
-        let mut words = vec![0; shape.book_length()];
-        make(&mut words, 3, 3, 5, 3).unwrap();
-        for _ in 0..source.random.below(80) {
-            let call = source.call(&Words::new(shape, &words));
-            let _ = perform(&mut words, call);
-        }
+        let mut words = grown(&mut source, shape, 80);
         let grade = round % 3;
         for other in (0..3).filter(|other| *other != grade && round % 4 != 0) {
             any_word(&mut source.random, &mut words[shape.block(other)]);

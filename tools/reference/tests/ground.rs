@@ -2,32 +2,20 @@
 //! levels, on books of every kind; and which sums a limit admits. The worked rows are in examples.rs, the
 //! refusals in refusals.rs, runs beside the ledger in ledger.rs.
 
+mod common;
+
+use common::{feed, made, Both, DELIVERIES};
 use draw::grounds::{all, draw, firsts, kinds};
 use draw::random::Random;
+use draw::shapes::EXAMPLE;
 use draw::tally::Tally;
-use reference::calls::{clock, deliver, make, query, Call};
+use reference::calls::{clock, query};
 use reference::ground::{ground, Finer, Ground};
-use reference::ledger::Ledger;
-use reference::shape::Shape;
 use reference::soundness::sound_head;
 use reference::window::opening;
 use reference::words::decode_head;
 
 const LEVEL_ZERO: Finer = Finer::LevelZero;
-
-fn empty([k, n, m, g]: [u32; 4]) -> Vec<u32> {
-    let mut words = vec![9; Shape::new(k, n, m, g).unwrap().book_length()];
-    make(&mut words, k, n, m, g).unwrap();
-    words
-}
-
-/// Sets the clock, then delivers (stamp, volume) of grade 0.
-fn feed(words: &mut [u32], now: u32, deliveries: &[(u32, u32)]) {
-    clock(words, now).unwrap();
-    for &(stamp, volume) in deliveries {
-        deliver(words, 0, stamp, volume).unwrap();
-    }
-}
 
 fn found(sum: u64, level: u32, limit: u64, finer: Finer) -> Result<Ground, u32> {
     Ok(Ground {
@@ -40,7 +28,7 @@ fn found(sum: u64, level: u32, limit: u64, finer: Finer) -> Result<Ground, u32> 
 
 #[test]
 fn window_0_is_told_from_level_0() {
-    let mut words = empty([2, 2, 4, 1]);
+    let mut words = made(EXAMPLE);
     for now in [0, 3, 4, 9] {
         clock(&mut words, now).unwrap();
         assert_eq!(ground(&words, 0, 0), found(0, 0, 0, Finer::WindowZero));
@@ -54,7 +42,7 @@ fn window_0_is_told_from_level_0() {
 /// answers both, and level 1 of the two halves has another F.
 #[test]
 fn the_half_in_which_the_window_opens() {
-    let mut words = empty([3, 2, 6, 1]);
+    let mut words = made([3, 2, 6, 1]);
     let units = [5, 7, 7, 7, 7, 6, 7].map(|stamp| (stamp, 1));
     feed(&mut words, 7, &units);
     feed(&mut words, 10, &[(9, 6), (8, 1), (10, 1)]);
@@ -69,8 +57,8 @@ fn the_half_in_which_the_window_opens() {
 /// have its level 0 serve every opening.
 #[test]
 fn an_empty_half_after_a_full_one() {
-    let mut words = empty([2, 2, 4, 1]);
-    feed(&mut words, 3, &[(0, 3), (3, 1), (1, 1), (1, 1), (2, 2)]);
+    let mut words = made(EXAMPLE);
+    feed(&mut words, 3, &DELIVERIES);
     clock(&mut words, 4).unwrap();
     assert_eq!(ground(&words, 0, 4), found(4, 2, 12, Finer::First(2)));
     assert_eq!(ground(&words, 0, 3), found(3, 0, 0, LEVEL_ZERO));
@@ -123,26 +111,11 @@ fn grounds_of_drawn_questions() {
 
 #[test]
 fn limits_include_their_ends() {
-    let shape = Shape::new(2, 2, 4, 1).unwrap();
-    let mut ledger = Ledger::new(shape);
-    let delivery = Call::Delivery {
-        grade: 0,
-        stamp: 2,
-        volume: 13,
-    };
-    for call in [Call::Clock { clock: 3 }, delivery] {
-        ledger.perform(call, shape.book_length()).unwrap();
-    }
+    let mut both = Both::new(EXAMPLE);
+    both.feed(3, 0, &[(2, 13)]);
     let admits = |sum, limit| {
-        let finer = Finer::First(1);
-        let level = 2;
-        let ground = Ground {
-            sum,
-            level,
-            limit,
-            finer,
-        };
-        ledger.admits_ground(0, 2, ground)
+        let ground = found(sum, 2, limit, Finer::First(1)).unwrap();
+        both.ledger.admits_ground(0, 2, ground)
     };
     assert!(admits(13, 0) && !admits(12, 0) && !admits(14, 0));
     assert!(admits(1, 12) && admits(25, 12));

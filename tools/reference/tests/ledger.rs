@@ -2,10 +2,13 @@
 //! where that is promised, grounds within their limits, late deliveries never missed, levels near the
 //! truth, and every grown block sound.
 
-use draw::calls::{call_of, Source};
+mod common;
+
+use common::{delivery, made};
+use draw::calls::Source;
 use draw::pace::Pace;
 use draw::random::Random;
-use draw::shapes::Makes;
+use draw::shapes::{within, Makes, Numbers};
 use reference::calls::{perform, Answer, Call};
 use reference::ground::ground;
 use reference::histogram::Histogram;
@@ -26,7 +29,6 @@ struct Seen {
     bounded: usize,
     inexact: usize,
     above: usize,
-    below: usize,
     from_level_0: usize,
     /// Grounds that differ from the ledger, where n is at most k + 1 and no bound holds.
     unbounded_inexact: usize,
@@ -42,12 +44,10 @@ struct Run {
 }
 
 impl Run {
-    fn new(shape: Shape) -> Run {
-        let mut words = vec![0; shape.book_length()];
-        perform(&mut words, call_of(shape.numbers())).unwrap();
+    fn new(numbers: Numbers) -> Run {
         Run {
-            words,
-            ledger: Ledger::new(shape),
+            words: made(numbers),
+            ledger: Ledger::new(within(numbers)),
             late: Vec::new(),
             seen: Seen::default(),
         }
@@ -81,10 +81,8 @@ impl Run {
             }
             (Call::Query { grade, window }, Ok(Answer::Sum(sum))) => {
                 assert_eq!(self.words, before);
-                assert_eq!(
-                    ledger,
-                    Ok(Answer::Sum(self.ledger.window_sum(grade, window)))
-                );
+                let exact = self.ledger.window_sum(grade, window);
+                assert_eq!(ledger, Ok(Answer::Sum(exact)));
                 self.check_sum(grade, window, sum);
             }
             (Call::Make { .. }, _) => {
@@ -125,22 +123,17 @@ impl Run {
         assert!(self.ledger.admits(exact, book), "{exact}: {book}");
         let admitted = self.ledger.admits_exact(grade, window, book);
         assert!(admitted, "{exact}: {book}, window {window}");
-        self.check_ground(grade, window, book);
-        if shape.n() > shape.k() + 1 {
-            self.seen.bounded += 1;
-            self.seen.inexact += usize::from(book != exact);
-            self.seen.above += usize::from(book > exact);
-            self.seen.below += usize::from(book < exact);
-        } else {
-            self.seen.unbounded_inexact += usize::from(book != exact);
-        }
-    }
-
-    fn check_ground(&self, grade: u32, window: u32, book: u64) {
         let ground = ground(&self.words, grade, window).expect("a query that was answered");
         assert_eq!(ground.sum, book);
         let admitted = self.ledger.admits_ground(grade, window, ground);
         assert!(admitted, "{ground:?}");
+        if shape.n() > shape.k() + 1 {
+            self.seen.bounded += 1;
+            self.seen.inexact += usize::from(book != exact);
+            self.seen.above += usize::from(book > exact);
+        } else {
+            self.seen.unbounded_inexact += usize::from(book != exact);
+        }
     }
 
     fn block(&self, grade: u32) -> [Histogram; 2] {
@@ -199,10 +192,6 @@ impl Run {
     }
 }
 
-fn shape(k: u32, n: u32, m: u32, g: u32) -> Shape {
-    Shape::new(k, n, m, g).unwrap()
-}
-
 /// Calls with an accepted make once in so many, of the same shape, and volumes up to the usual.
 fn source(seed: u64, span: u64, volume: u64) -> Source {
     let mut source = Source::new(seed, Makes::Same);
@@ -222,16 +211,11 @@ fn source(seed: u64, span: u64, volume: u64) -> Source {
 #[test]
 fn small_shapes_stay_within_the_bound() {
     let mut inexact = 0;
-    for (seed, shape) in (1..).zip([
-        shape(2, 4, 12, 1),
-        shape(4, 6, 10, 2),
-        shape(5, 9, 12, 1),
-        shape(5, 16, 9, 3),
-    ]) {
-        let mut run = Run::new(shape);
+    let shapes = [[2, 4, 12, 1], [4, 6, 10, 2], [5, 9, 12, 1], [5, 16, 9, 3]];
+    for (seed, numbers) in (1..).zip(shapes) {
+        let mut run = Run::new(numbers);
         run.steps(&mut source(seed, 300, 5), 6000);
-        assert!(run.seen.makes > 5);
-        assert!(run.seen.skips > 5);
+        assert!(run.seen.makes > 5 && run.seen.skips > 5);
         assert!(run.seen.from_level_0 > 100);
         inexact += run.seen.inexact;
     }
@@ -241,12 +225,12 @@ fn small_shapes_stay_within_the_bound() {
 #[test]
 fn long_intervals_stay_within_a_narrow_bound() {
     // 2(k+1)/(n-k-1) is near a third, an eighth and an eleventh.
-    for (seed, shape, volume) in [
-        (11, shape(8, 64, 12, 1), 6),
-        (12, shape(10, 190, 13, 1), 20),
-        (13, shape(12, 300, 14, 1), 40),
+    for (seed, numbers, volume) in [
+        (11, [8, 64, 12, 1], 6),
+        (12, [10, 190, 13, 1], 20),
+        (13, [12, 300, 14, 1], 40),
     ] {
-        let mut run = Run::new(shape);
+        let mut run = Run::new(numbers);
         let mut source = source(seed, 3000, volume);
         source.pace = Pace {
             edges: 200,
@@ -255,8 +239,8 @@ fn long_intervals_stay_within_a_narrow_bound() {
             ..source.pace
         };
         run.steps(&mut source, 9000);
-        assert!(run.seen.inexact > 50, "{}", run.seen.inexact);
-        assert!(run.seen.above > 0 && run.seen.below > 0);
+        let (inexact, above) = (run.seen.inexact, run.seen.above);
+        assert!(inexact > 50 && above > 0 && above < inexact, "{inexact}");
     }
 }
 
@@ -266,8 +250,7 @@ fn few_slots_still_share_every_refusal() {
     for seed in 21..=30 {
         let mut random = Random::new(seed);
         let k = random.between(2, 6);
-        let shape = shape(k, random.between(2, k + 1), random.between(1, 14), 2);
-        let mut run = Run::new(shape);
+        let mut run = Run::new([k, random.between(2, k + 1), random.between(1, 14), 2]);
         run.steps(&mut source(seed, 200, 3), 2500);
         assert_eq!(run.seen.bounded, 0);
         assert!(run.seen.from_level_0 > 0);
@@ -279,15 +262,11 @@ fn few_slots_still_share_every_refusal() {
 #[test]
 fn makes_of_other_shapes_in_the_same_words() {
     let mut seen = Seen::default();
-    for (seed, start) in (31..).zip([
-        shape(4, 6, 15, 1),
-        shape(5, 10, 9, 1),
-        shape(2, 2, 4, 1),
-        shape(3, 6, 7, 2),
-    ]) {
-        let mut run = Run::new(start);
+    let shapes = [[4, 6, 15, 1], [5, 10, 9, 1], [2, 2, 4, 1], [3, 6, 7, 2]];
+    for (seed, numbers) in (31..).zip(shapes) {
+        let mut run = Run::new(numbers);
         let mut source = source(seed, 120, 4);
-        source.makes = Makes::Length(start.book_length());
+        source.makes = Makes::Length(run.words.len());
         // Makes keep the clock in the first intervals, where half of the windows are drawn at edges
         // and most of these are exact.
         run.steps(&mut source, 24_000);
@@ -307,14 +286,14 @@ fn makes_of_other_shapes_in_the_same_words() {
 
 #[test]
 fn clock_at_its_last_tick() {
-    for (seed, shape) in (41..).zip([shape(2, 4, 8, 2), shape(6, 9, 11, 1), shape(20, 30, 9, 1)]) {
-        let mut run = Run::new(shape);
+    for (seed, numbers) in (41..).zip([[2, 4, 8, 2], [6, 9, 11, 1], [20, 30, 9, 1]]) {
+        let mut run = Run::new(numbers);
         let mut source = source(seed, 1 << 40, 3);
         let near = Shape::CLOCK_MAX - 30;
-        run.step(Call::Clock { clock: near }, shape.book_length());
+        run.step(Call::Clock { clock: near }, run.words.len());
         run.steps(&mut source, 2000);
         let last = Shape::CLOCK_MAX;
-        run.step(Call::Clock { clock: last }, shape.book_length());
+        run.step(Call::Clock { clock: last }, run.words.len());
         assert_eq!(run.ledger.clock(), last);
         run.steps(&mut source, 500);
         assert!(run.seen.refused[6] > 50);
@@ -323,8 +302,7 @@ fn clock_at_its_last_tick() {
 
 #[test]
 fn volumes_up_to_the_largest() {
-    let shape = shape(3, 5, 24, 1);
-    let mut run = Run::new(shape);
+    let mut run = Run::new([3, 5, 24, 1]);
     let mut source = source(51, 1 << 40, 65_535);
     source.pace.clocks = 3;
     run.steps(&mut source, 600);
@@ -333,8 +311,8 @@ fn volumes_up_to_the_largest() {
 
 #[test]
 fn other_numbers_of_borrowed_words() {
-    let shapes = [shape(3, 5, 6, 1), shape(3, 5, 6, 2), shape(4, 4, 5, 1)];
-    let lengths = shapes.map(Shape::book_length);
+    let shapes = [[3, 5, 6, 1], [3, 5, 6, 2], [4, 4, 5, 1]];
+    let lengths = shapes.map(|numbers| within(numbers).book_length());
     let longest = *lengths.iter().max().unwrap();
     let mut run = Run::new(shapes[1]);
     assert_eq!(run.words.len(), longest);
@@ -355,14 +333,9 @@ fn other_numbers_of_borrowed_words() {
 
 #[test]
 fn every_level_is_near_the_truth() {
-    for (seed, shape) in (71..).zip([
-        shape(2, 2, 6, 1),
-        shape(3, 2, 8, 2),
-        shape(4, 3, 9, 1),
-        shape(5, 7, 10, 1),
-        shape(6, 12, 11, 1),
-    ]) {
-        let mut run = Run::new(shape);
+    let shapes = [[2, 2, 6, 1], [3, 2, 8, 2], [4, 3, 9, 1], [5, 7, 10, 1]];
+    for (seed, numbers) in (71..).zip(shapes.into_iter().chain([[6, 12, 11, 1]])) {
+        let mut run = Run::new(numbers);
         let mut source = source(seed, 400, 3);
         let mut inexact = 0;
         for _ in 0..3000 {
@@ -376,19 +349,22 @@ fn every_level_is_near_the_truth() {
 #[test]
 fn exhaustive_orders_of_units_are_near_the_truth() {
     // All lists of seven single decilitres over the four offsets of an interval.
-    let shape = shape(2, 2, 3, 1);
     for code in 0..1u32 << 14 {
-        let mut run = Run::new(shape);
-        run.step(Call::Clock { clock: 3 }, shape.book_length());
+        let mut run = Run::new([2, 2, 3, 1]);
+        run.step(Call::Clock { clock: 3 }, run.words.len());
         for unit in 0..7 {
             let stamp = code >> (2 * unit) & 3;
-            let delivery = Call::Delivery {
-                grade: 0,
-                stamp,
-                volume: 1,
-            };
-            run.step(delivery, shape.book_length());
+            run.step(delivery(0, stamp, 1), run.words.len());
         }
         run.check_levels();
     }
+}
+
+#[test]
+fn the_bound_is_a_bound() {
+    // 2 (k + 1) / (n - k - 1) is 6 / 3.
+    let ledger = Ledger::new(within([2, 6, 9, 1]));
+    assert!(ledger.admits(10, 30) && ledger.admits(10, 0));
+    assert!(!ledger.admits(10, 31) && !ledger.admits(0, 1));
+    assert!(Ledger::new(within([5, 6, 9, 1])).admits(u64::MAX >> 8, 0));
 }

@@ -1,7 +1,10 @@
 //! Merges: the refusals and their order, outputs that are a merged day and outputs that are none, and the
 //! clocks that records meet.
 
-use reference::calls::{clock, make};
+mod common;
+
+use common::{feed, made};
+use draw::shapes::EXAMPLE;
 use reference::merge::{
     home_clocks, judge, length, merged_clocks, met_clocks, sources, Disorder, Named,
 };
@@ -50,21 +53,6 @@ fn one_outcome_where_no_clock_is_in_both_days() {
 }
 
 #[test]
-fn any_order_among_equal_clocks() {
-    let (first, second) = ([c(4), d(1, 1)], [c(4), d(2, 2)]);
-    let [a, b] = [d(1, 1), d(2, 2)];
-    for output in [[c(4), a, c(4), b], [c(4), c(4), a, b], [c(4), b, c(4), a]] {
-        assert!(merges(&first, &second, &output), "{output:?}");
-    }
-    assert!(merges(&first, &second, &[c(4), c(4), b, a]));
-    assert!(!merges(&first, &second, &[c(4), a, b, c(4)]));
-    // Also within a day, where a clock is set to what it is.
-    assert!(merges(&[c(4), c(4), b], &[c(4)], &[c(4), c(4), c(4), b]));
-    assert!(merges(&[c(4), c(4), b], &[c(4)], &[c(4), c(4), b, c(4)]));
-    assert!(!merges(&[c(4), c(4), b], &[c(4)], &[c(4), b, c(4), c(4)]));
-}
-
-#[test]
 fn every_record_once() {
     let [one, five, three, asked] = ODD;
     let [two, seven] = EVEN;
@@ -90,42 +78,20 @@ fn every_record_once() {
     }
 }
 
-/// To take each record from the first day while it fits leads astray, and so does the second day.
-#[test]
-fn the_same_records_in_both_days() {
-    let [a, b] = [d(1, 1), d(2, 2)];
-    let first = [c(4), a, b];
-    let second = [c(4), a, a, b];
-    for output in [
-        [c(4), a, c(4), a, a, b, b],
-        [c(4), c(4), a, a, a, b, b],
-        [c(4), a, b, c(4), a, a, b],
-        [c(4), a, a, b, c(4), a, b],
-        [c(4), a, a, c(4), a, b, b],
-    ] {
-        assert!(merges(&first, &second, &output), "{output:?}");
-    }
-    for output in [
-        [c(4), a, b, a, c(4), a, b],
-        [c(4), a, b, b, c(4), a, a],
-        [c(4), c(4), b, a, a, a, b],
-        [c(4), c(4), a, a, b, b, a],
-    ] {
-        assert!(!merges(&first, &second, &output), "{output:?}");
-    }
-}
-
-/// Every output of a few records beside a judge that tries each way to share them out.
+/// Every output of a few records beside a judge that tries each way to share them out. Clocks and records stand
+/// in both days, so that to take each record from the same day while it fits leads astray.
 #[test]
 fn beside_every_way_to_share_the_records() {
     let [a, b] = [d(1, 1), d(2, 2)];
-    let days: [&[Record]; 6] = [
+    let days: [&[Record]; 8] = [
         &[],
         &[c(4), a],
         &[c(4), c(4)],
         &[c(4), a, c(5), a],
         &[c(5), a, b],
         &[c(4), a, b, a],
+        &[c(4), a, b],
+        &[c(4), a, a, b],
     ];
     let any = [c(4), c(5), a, b];
     let mut met = [0, 0];
@@ -133,7 +99,7 @@ fn beside_every_way_to_share_the_records() {
         for second in days {
             let ways = every_way(first, second);
             let length = first.len() + second.len();
-            if length > 6 {
+            if length > 7 {
                 continue;
             }
             for number in 0..4usize.pow(length as u32) {
@@ -186,10 +152,8 @@ fn clocks_at_home() {
     let clocks = |records: &[Record]| home_clocks(&records.concat());
     assert_eq!(clocks(&[]), Ok(vec![]));
     assert_eq!(clocks(&ODD), Ok(vec![1, 1, 3, 3]));
-    assert_eq!(
-        clocks(&[c(0), c(0), q(1), c(MOST)]),
-        Ok(vec![0, 0, 0, MOST])
-    );
+    let most = clocks(&[c(0), c(0), q(1), c(MOST)]);
+    assert_eq!(most, Ok(vec![0, 0, 0, MOST]));
     assert_eq!(clocks(&[d(0, 1), c(3)]), Err(Disorder::Opening));
     assert_eq!(clocks(&[q(0)]), Err(Disorder::Opening));
     assert_eq!(clocks(&[c(3), d(0, 1), c(2)]), Err(Disorder::Fall));
@@ -276,9 +240,8 @@ fn clocks_that_records_meet() {
     let home = merged_clocks(days, &merged).unwrap();
     assert_eq!(home, [1, 1, 2, 2, 3, 3]);
     let book = |at: u32| {
-        let mut book = vec![0; 90];
-        make(&mut book, 2, 2, 4, 1).unwrap();
-        clock(&mut book, at).unwrap();
+        let mut book = made(EXAMPLE);
+        feed(&mut book, at, &[]);
         book
     };
     assert_eq!(met_clocks(&mut book(0), &merged), home);

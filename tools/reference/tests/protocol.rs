@@ -1,10 +1,18 @@
 //! The line protocol: which lines are read, what each one is given, and the program itself.
 
-use std::io::Write;
-use std::process::{Command, Stdio};
+mod common;
 
+use std::io::{BufRead, BufReader, Write};
+use std::process::{Child, ChildStdin, ChildStdout, Command, Stdio};
+use std::sync::mpsc::channel;
+use std::time::Duration;
+
+use common::delivery;
+use draw::calls::{call_of, Source};
+use draw::shapes::{within, Makes, EXAMPLE};
 use reference::calls::Call;
-use reference::protocol::{parse, run, BUFFER_WORDS};
+use reference::ledger::Ledger;
+use reference::protocol::{line, parse, run, Bench, BUFFER_WORDS};
 
 fn output(input: &[u8]) -> String {
     let mut output = Vec::new();
@@ -18,110 +26,59 @@ fn answers(lines: &[&str]) -> Vec<String> {
     text.lines().map(str::to_string).collect()
 }
 
+/// Lines, each with its answer behind an arrow.
+fn assert_answers(lines: &str) {
+    let pairs = lines
+        .split("; ")
+        .map(|pair| pair.split_once(" > ").unwrap());
+    let (lines, expected): (Vec<_>, Vec<_>) = pairs.unzip();
+    assert_eq!(answers(&lines), expected);
+}
+
+/// Lines parted by bars, none of which is a call.
+fn assert_unread(lines: &str) {
+    for line in lines.split('|') {
+        assert_eq!(parse(line.as_bytes()), None, "{line:?}");
+    }
+}
+
 #[test]
 fn every_command_is_read() {
-    let [k, n, m, g] = [2, 3, 4, 5];
-    assert_eq!(parse(b"m 2 3 4 5"), Some(Call::Make { k, n, m, g }));
-    assert_eq!(parse(b"c 17"), Some(Call::Clock { clock: 17 }));
-    let (grade, stamp, volume) = (0, 10, 4_294_967_295);
-    let delivery = Call::Delivery {
-        grade,
-        stamp,
-        volume,
-    };
-    assert_eq!(parse(b"d 0 10 4294967295"), Some(delivery));
+    assert_eq!(parse(b"m 2 3 4 5"), Some(call_of([2, 3, 4, 5])));
+    let last = delivery(0, 10, 4_294_967_295);
+    assert_eq!(parse(b"d 0 10 4294967295"), Some(last));
     let (grade, window) = (1, 20);
     assert_eq!(parse(b"q 1 20"), Some(Call::Query { grade, window }));
+    for clock in [0, 1, 10, 17, 4_294_967_295] {
+        let line = format!("c {clock}");
+        assert_eq!(parse(line.as_bytes()), Some(Call::Clock { clock }));
+    }
 }
 
 #[test]
 fn numbers_are_strict() {
-    for line in [
-        "c 00",
-        "c 01",
-        "c 007",
-        "c 4294967296",
-        "c 4294967300",
-        "c 9999999999",
-        "c 18446744073709551616",
-        "c 18446744073709551617",
-        "c +1",
-        "c -1",
-        "c 1.0",
-        "c 1e3",
-        "c 0x1",
-        "c 1_000",
-        "c 1,000",
-        "c one",
-        "c 1a",
-        "c a1",
-        "c \u{0661}",
-        "c /",
-        "c :",
-    ] {
-        assert_eq!(parse(line.as_bytes()), None, "{line:?}");
-    }
-    for number in [0, 1, 10, 4_294_967_295] {
-        let line = format!("c {number}");
-        assert_eq!(parse(line.as_bytes()), Some(Call::Clock { clock: number }));
-    }
+    assert_unread("c 00|c 01|c 007|c 4294967296|c 4294967300|c 9999999999");
+    assert_unread("c 18446744073709551616|c 18446744073709551617|c +1|c -1|c 1.0|c 1e3|c 0x1");
+    assert_unread("c 1_000|c 1,000|c one|c 1a|c a1|c \u{0661}|c /|c :");
 }
 
 #[test]
 fn spaces_are_strict() {
-    for line in [
-        "c  1", " c 1", "c 1 ", "c1", "c\t1", "c 1\t", "\tc 1", "c 1\r", "c\r1", "c 1\u{b}",
-        "c\u{a0}1", "c 1\0", "c\0 1", " ", "  ", "q 0  2", "q  0 2", "q 0 2 ",
-    ] {
-        assert_eq!(parse(line.as_bytes()), None, "{line:?}");
-    }
+    assert_unread("c  1| c 1|c 1 |c1|c\t1|c 1\t|\tc 1|c 1\r|c\r1|c 1\u{b}|c\u{a0}1|c 1\0|c\0 1");
+    assert_unread(" |  |q 0  2|q  0 2|q 0 2 ");
     assert_eq!(parse(b"c \xff"), None);
     assert_eq!(parse(b"\xff 1"), None);
 }
 
 #[test]
 fn fields_are_counted() {
-    for line in [
-        "",
-        "m",
-        "m ",
-        "m 2",
-        "m 2 2",
-        "m 2 2 4",
-        "m 2 2 4 1 1",
-        "c",
-        "c ",
-        "c 1 2",
-        "d",
-        "d 0",
-        "d 0 0",
-        "d 0 0 1 1",
-        "q",
-        "q 0",
-        "q 0 1 2",
-        "1",
-        "1 2",
-    ] {
-        assert_eq!(parse(line.as_bytes()), None, "{line:?}");
-    }
+    assert_unread("|m|m |m 2|m 2 2|m 2 2 4|m 2 2 4 1 1|c|c |c 1 2|d|d 0|d 0 0|d 0 0 1 1");
+    assert_unread("q|q 0|q 0 1 2|1|1 2");
 }
 
 #[test]
 fn commands_are_single_small_letters() {
-    for line in [
-        "M 2 2 4 1",
-        "C 3",
-        "D 0 0 1",
-        "Q 0 1",
-        "clock 3",
-        "cc 3",
-        "x 3",
-        "k 3",
-        "= 3",
-        "\u{fe}\u{ff}c 3",
-    ] {
-        assert_eq!(parse(line.as_bytes()), None, "{line:?}");
-    }
+    assert_unread("M 2 2 4 1|C 3|D 0 0 1|Q 0 1|clock 3|cc 3|x 3|k 3|= 3|\u{fe}\u{ff}c 3");
 }
 
 #[test]
@@ -151,28 +108,13 @@ fn newlines_end_lines() {
 
 #[test]
 fn head_is_unsound_before_the_first_make() {
-    let lines = ["c 0", "d 0 0 1", "q 0 0", "c 4294967295", "d 9 9 0", "x"];
-    let mut expected = vec!["refused 7"; 5];
-    expected.push("unread");
-    assert_eq!(answers(&lines), expected);
+    assert_answers("c 0 > refused 7; d 0 0 1 > refused 7; q 0 0 > refused 7; x > unread");
+    assert_answers("c 4294967295 > refused 7; d 9 9 0 > refused 7");
     // A refused make changes nothing.
-    let lines = [
-        "m 1 2 4 1",
-        "c 0",
-        "m 20 441 24 1",
-        "c 0",
-        "m 2 2 4 1",
-        "c 0",
-    ];
-    let expected = [
-        "refused 1",
-        "refused 7",
-        "refused 2",
-        "refused 7",
-        "ok",
-        "ok",
-    ];
-    assert_eq!(answers(&lines), expected);
+    assert_answers(
+        "m 1 2 4 1 > refused 1; c 0 > refused 7; m 20 441 24 1 > refused 2; c 0 > refused 7; \
+         m 2 2 4 1 > ok; c 0 > ok",
+    );
 }
 
 #[test]
@@ -191,15 +133,9 @@ fn make_may_need_all_of_the_buffer_and_no_more() {
 
 #[test]
 fn make_outside_the_limits_is_refused_1() {
-    for line in [
-        "m 0 0 0 0",
-        "m 21 2 4 1",
-        "m 2 1025 24 8",
-        "m 2 2 25 1",
-        "m 2 2 4 0",
-        "m 2 2 4 9",
-        "m 4294967295 4294967295 4294967295 4294967295",
-    ] {
+    let lines = "m 0 0 0 0|m 21 2 4 1|m 2 1025 24 8|m 2 2 25 1|m 2 2 4 0|m 2 2 4 9\
+                 |m 4294967295 4294967295 4294967295 4294967295";
+    for line in lines.split('|') {
         assert_eq!(answers(&[line]), ["refused 1"], "{line}");
         assert_eq!(answers(&["m 2 2 4 1", line])[1], "refused 1", "{line}");
     }
@@ -207,120 +143,58 @@ fn make_outside_the_limits_is_refused_1() {
 
 #[test]
 fn refused_make_keeps_the_book() {
-    let lines = [
-        "m 2 2 4 1",
-        "c 3",
-        "d 0 3 2",
-        "m 20 441 24 1",
-        "q 0 1",
-        "m 1 1 1 1",
-        "q 0 1",
-        "c 2",
-    ];
-    let expected = [
-        "ok",
-        "ok",
-        "ok",
-        "refused 2",
-        "= 2",
-        "refused 1",
-        "= 2",
-        "refused 10",
-    ];
-    assert_eq!(answers(&lines), expected);
+    assert_answers(
+        "m 2 2 4 1 > ok; c 3 > ok; d 0 3 2 > ok; m 20 441 24 1 > refused 2; q 0 1 > = 2; \
+         m 1 1 1 1 > refused 1; q 0 1 > = 2; c 2 > refused 10",
+    );
 }
 
 #[test]
 fn later_make_may_be_longer_or_shorter() {
-    let lines = [
-        "m 2 2 4 1",
-        "d 0 0 3",
-        "q 0 1",
-        "m 3 50 10 2",
-        "q 1 8",
-        "d 1 0 5",
-        "q 1 1",
-        "m 2 2 1 1",
-        "q 1 1",
-        "q 0 1",
-        "m 3 50 10 2",
-        "q 1 8",
-    ];
-    let expected = [
-        "ok",
-        "ok",
-        "= 3",
-        "ok",
-        "= 0",
-        "ok",
-        "= 5",
-        "ok",
-        "refused 3",
-        "= 0",
-        "ok",
-        "= 0",
-    ];
-    assert_eq!(answers(&lines), expected);
+    assert_answers(
+        "m 2 2 4 1 > ok; d 0 0 3 > ok; q 0 1 > = 3; m 3 50 10 2 > ok; q 1 8 > = 0; \
+         d 1 0 5 > ok; q 1 1 > = 5; m 2 2 1 1 > ok; q 1 1 > refused 3; q 0 1 > = 0; \
+         m 3 50 10 2 > ok; q 1 8 > = 0",
+    );
 }
 
 #[test]
 fn every_refusal_that_the_protocol_can_show() {
-    let lines = [
-        "q 0 0",
-        "m 0 2 4 1",
-        "m 20 1024 24 8",
-        "m 2 2 4 1",
-        "q 1 0",
-        "d 0 0 0",
-        "q 0 5",
-        "c 2000000001",
-        "d 0 1 1",
-        "c 9",
-        "d 0 5 1",
-        "c 8",
-        "d 0 9 17",
-    ];
-    let expected = [
-        "refused 7",
-        "refused 1",
-        "refused 2",
-        "ok",
-        "refused 3",
-        "refused 4",
-        "refused 5",
-        "refused 6",
-        "refused 8",
-        "ok",
-        "refused 9",
-        "refused 10",
-        "refused 12",
-    ];
-    assert_eq!(answers(&lines), expected);
+    assert_answers(
+        "q 0 0 > refused 7; m 0 2 4 1 > refused 1; m 20 1024 24 8 > refused 2; m 2 2 4 1 > ok; \
+         q 1 0 > refused 3; d 0 0 0 > refused 4; q 0 5 > refused 5; c 2000000001 > refused 6; \
+         d 0 1 1 > refused 8; c 9 > ok; d 0 5 1 > refused 9; c 8 > refused 10; \
+         d 0 9 17 > refused 12",
+    );
 }
 
-/// Runs the program itself on this input.
-fn program(input: Vec<u8>) -> Vec<u8> {
+/// The program itself, with its two ends.
+fn started() -> (Child, ChildStdin, ChildStdout) {
     let mut child = Command::new(env!("CARGO_BIN_EXE_reference"))
         .stdin(Stdio::piped())
         .stdout(Stdio::piped())
         .spawn()
         .unwrap();
-    let mut stdin = child.stdin.take().unwrap();
+    let (stdin, stdout) = (child.stdin.take(), child.stdout.take());
+    (child, stdin.unwrap(), stdout.unwrap())
+}
+
+/// What the program prints for this input.
+fn program(input: Vec<u8>) -> String {
+    let (mut child, mut stdin, stdout) = started();
     // Its own thread, since the program may wait for its output to be read.
     let writer = std::thread::spawn(move || stdin.write_all(&input).unwrap());
-    let output = child.wait_with_output().unwrap();
+    let output = std::io::read_to_string(stdout).unwrap();
     writer.join().unwrap();
-    assert!(output.status.success());
-    output.stdout
+    assert!(child.wait().unwrap().success());
+    output
 }
 
 #[test]
 fn program_reads_and_writes_the_standard_streams() {
-    assert_eq!(program(vec![]), b"");
-    assert_eq!(
-        program(b"m 2 2 4 1\nc 3\nd 0 3 2\nq 0 1".to_vec()),
-        b"ok\nok\nok\n= 2\n"
-    );
+    assert_eq!(program(vec![]), "");
+    let output = program(b"m 2 2 4 1\nc 3\nd 0 3 2\nq 0 1".to_vec());
+    assert_eq!(output, "ok\nok\nok\n= 2\n");
 }
 
 #[test]
@@ -331,5 +205,30 @@ fn lines_cross_the_chunks_of_the_program() {
         input.extend(format!("c {clock}\nq 0 1\n\n").bytes());
         expected.push_str("ok\n= 0\nunread\n");
     }
-    assert_eq!(program(input), expected.as_bytes());
+    assert_eq!(program(input), expected);
+}
+
+/// A program that waits for more lines before it answers one would never be given them.
+#[test]
+fn every_line_is_answered_before_the_next() {
+    let (mut child, mut stdin, stdout) = started();
+    let (sender, answers) = channel();
+    let reader = std::thread::spawn(move || {
+        let mut lines = BufReader::new(stdout).lines();
+        lines.try_for_each(|line| sender.send(line.unwrap()))
+    });
+    let (mut bench, mut ledger) = (Bench::new(), Ledger::new(within(EXAMPLE)));
+    let mut source = Source::new(1, Makes::Same);
+    for _ in 0..2_000 {
+        let call = source.call(&ledger);
+        // Refused calls are part of a run.
+        let _ = ledger.perform(call, within(EXAMPLE).book_length());
+        let line = line(call);
+        writeln!(stdin, "{line}").unwrap();
+        let answer = answers.recv_timeout(Duration::from_secs(20)).unwrap();
+        assert_eq!(answer, bench.line(line.as_bytes()), "{line}");
+    }
+    drop(stdin);
+    reader.join().unwrap().unwrap();
+    assert!(child.wait().unwrap().success());
 }

@@ -1,59 +1,16 @@
 //! Exact on quiet grades (document 02, request Seven): which stamps are counted, that the book's sum is the
 //! ledger's where they are at most n, and that n + 1 are too many. Random runs are in ledger.rs.
 
-use reference::calls::{perform, Answer, Call};
-use reference::ledger::Ledger;
-use reference::shape::Shape;
+mod common;
 
-/// Document 01's examples have n = 2.
-const EXAMPLE: [u32; 4] = [2, 2, 4, 1];
-/// Stamp and volume of the deliveries from P1 to P7.
-const DELIVERIES: [(u32, u32); 5] = [(0, 3), (3, 1), (1, 1), (1, 1), (2, 2)];
+use common::{Both, DELIVERIES};
+use draw::calls::call_of;
+use draw::shapes::EXAMPLE;
+use reference::calls::{Answer, Call};
 
-/// A book and the ledger of the same calls.
-struct Both {
-    words: Vec<u32>,
-    ledger: Ledger,
-}
-
+/// What is asked of a book and the ledger of the same calls.
 impl Both {
-    fn new([k, n, m, g]: [u32; 4]) -> Both {
-        let shape = Shape::new(k, n, m, g).unwrap();
-        let mut both = Both {
-            words: vec![9; shape.book_length()],
-            ledger: Ledger::new(shape),
-        };
-        both.call(Call::Make { k, n, m, g });
-        both
-    }
-
-    /// The example's book at clock 3, after the first of its deliveries.
-    fn example(deliveries: usize) -> Both {
-        let mut both = Both::new(EXAMPLE);
-        both.feed(3, 0, &DELIVERIES[..deliveries]);
-        both
-    }
-
-    /// What book and ledger answer to a call that both accept.
-    fn call(&mut self, call: Call) -> [Answer; 2] {
-        let book = perform(&mut self.words, call);
-        let ledger = self.ledger.perform(call, self.words.len());
-        [book, ledger].map(|reply| reply.unwrap_or_else(|number| panic!("{call:?}: {number}")))
-    }
-
-    /// Sets the clock, then delivers (stamp, volume) of a grade.
-    fn feed(&mut self, clock: u32, grade: u32, deliveries: &[(u32, u32)]) {
-        self.call(Call::Clock { clock });
-        for &(stamp, volume) in deliveries {
-            self.call(Call::Delivery {
-                grade,
-                stamp,
-                volume,
-            });
-        }
-    }
-
-    /// The same with a decilitre at each stamp.
+    /// Sets the clock, then delivers a decilitre at each stamp.
     fn feed_units(&mut self, clock: u32, grade: u32, stamps: impl IntoIterator<Item = u32>) {
         let units: Vec<_> = stamps.into_iter().map(|stamp| (stamp, 1)).collect();
         self.feed(clock, grade, &units);
@@ -210,8 +167,7 @@ fn an_old_interval_of_the_same_parity_does_not_count() {
 fn a_make_forgets() {
     let mut p7 = Both::example(5);
     p7.assert_stamps(0, 3, 3);
-    let [k, n, m, g] = EXAMPLE;
-    p7.call(Call::Make { k, n, m, g });
+    p7.call(call_of(EXAMPLE));
     p7.assert_row(0, 4, 0, [0, 0]);
     p7.feed_units(3, 0, [2]);
     p7.assert_wide_and_exact(0, 3, 1, 1);

@@ -1,15 +1,21 @@
 //! The order of refusals, one call after another with fewer and fewer reasons, and the exact edge
 //! of each condition. A ground is refused as the query of the same numbers.
 
-use reference::calls::{clock, deliver, make, perform, query, Answer, Call};
+mod common;
+
+use common::{assert_sums, delivery, made};
+use draw::calls::call_of;
+use draw::shapes::{within, Numbers};
+use reference::calls::{clock, deliver, perform, query, Answer, Call};
 use reference::ground::ground;
+use reference::layout::BOOK;
 use reference::shape::Shape;
+
+const NUMBERS: Numbers = [2, 2, 4, 2];
 
 /// Two grades at clock 8; grade 1 is full in the current interval.
 fn book() -> Vec<u32> {
-    let shape = Shape::new(2, 2, 4, 2).unwrap();
-    let mut words = vec![0; shape.book_length()];
-    make(&mut words, 2, 2, 4, 2).unwrap();
+    let mut words = made(NUMBERS);
     clock(&mut words, 8).unwrap();
     deliver(&mut words, 1, 8, 16).unwrap();
     words
@@ -18,7 +24,7 @@ fn book() -> Vec<u32> {
 /// The same with a total above all limits in grade 1, in the half that the calls do not touch.
 fn unsound() -> Vec<u32> {
     let mut words = book();
-    words[Shape::new(2, 2, 4, 2).unwrap().block(1).start + 1] = u32::MAX;
+    words[within(NUMBERS).block(1)][BOOK.total(1).start] = u32::MAX;
     words
 }
 
@@ -46,14 +52,6 @@ fn assert_refused(mut words: Vec<u32>, call: Call, number: u32) {
     }
 }
 
-fn delivery(grade: u32, stamp: u32, volume: u32) -> Call {
-    Call::Delivery {
-        grade,
-        stamp,
-        volume,
-    }
-}
-
 /// Lengths and heads, for each call that reads a head.
 fn assert_opening(call: Call) {
     assert_refused(vec![], call, 2);
@@ -67,14 +65,12 @@ fn assert_opening(call: Call) {
 
 #[test]
 fn order_for_make() {
-    for (k, n, m, g) in [(1, 2, 4, 2), (2, 1, 4, 2), (2, 2, 0, 2), (2, 2, 4, 0)] {
-        let call = Call::Make { k, n, m, g };
+    for numbers in [[1, 2, 4, 2], [2, 1, 4, 2], [2, 2, 0, 2], [2, 2, 4, 0]] {
         for words in [book(), vec![], cut(book(), 7), bad_head(unsound())] {
-            assert_refused(words, call, 1);
+            assert_refused(words, call_of(numbers), 1);
         }
     }
-    let [k, n, m, g] = [2, 2, 4, 2];
-    let call = Call::Make { k, n, m, g };
+    let call = call_of(NUMBERS);
     for words in [vec![], cut(book(), 7), cut(book(), 8), longer(book())] {
         assert_refused(words, call, 2);
     }
@@ -85,12 +81,16 @@ fn order_for_make() {
 #[test]
 fn order_for_deliveries() {
     assert_opening(delivery(2, 9, 0));
-    assert_refused(unsound(), delivery(2, 9, 0), 3);
-    assert_refused(unsound(), delivery(1, 9, 0), 4);
-    assert_refused(unsound(), delivery(1, 3, 65_536), 4);
-    assert_refused(unsound(), delivery(1, 9, 17), 8);
-    assert_refused(unsound(), delivery(1, 4, 17), 9);
-    assert_refused(unsound(), delivery(1, 8, 17), 11);
+    for (call, number) in [
+        (delivery(2, 9, 0), 3),
+        (delivery(1, 9, 0), 4),
+        (delivery(1, 3, 65_536), 4),
+        (delivery(1, 9, 17), 8),
+        (delivery(1, 4, 17), 9),
+        (delivery(1, 8, 17), 11),
+    ] {
+        assert_refused(unsound(), call, number);
+    }
     assert_refused(book(), delivery(1, 8, 1), 12);
 }
 
@@ -120,38 +120,32 @@ fn window_0_answers_0_after_every_refusal() {
 
 #[test]
 fn order_for_clocks() {
-    let above = Call::Clock {
-        clock: 2_000_000_001,
-    };
-    assert_opening(above);
-    assert_refused(unsound(), above, 6);
-    assert_refused(unsound(), Call::Clock { clock: 7 }, 10);
-    assert_refused(unsound(), Call::Clock { clock: 8 }, 11);
-    assert_refused(unsound(), Call::Clock { clock: 100 }, 11);
+    let call = |clock| Call::Clock { clock };
+    assert_opening(call(2_000_000_001));
+    for (new, number) in [(2_000_000_001, 6), (7, 10), (8, 11), (100, 11)] {
+        assert_refused(unsound(), call(new), number);
+    }
 }
 
 #[test]
 fn only_the_named_block_is_inspected() {
     let mut words = unsound();
-    assert_eq!(query(&words, 0, 4), Ok(0));
+    assert_sums(&words, &[(4, 0)]);
     assert!(ground(&words, 0, 4).is_ok());
     assert_eq!(deliver(&mut words, 0, 8, 1), Ok(0));
-    assert_eq!(query(&words, 0, 4), Ok(1));
+    assert_sums(&words, &[(4, 1)]);
 }
 
 #[test]
 fn edges_of_stamps() {
-    for (stamp, answer) in [
-        (8, Ok(0)),
-        (9, Err(8)),
-        (5, Ok(0)),
-        (4, Err(9)),
-        (0, Err(9)),
-    ] {
-        assert_eq!(deliver(&mut book(), 0, stamp, 1), answer, "stamp {stamp}");
+    for stamp in [8, 5] {
+        assert_eq!(deliver(&mut book(), 0, stamp, 1), Ok(0), "stamp {stamp}");
     }
-    for stamp in [u32::MAX, u32::MAX - 3, u32::MAX - 4] {
-        assert_eq!(deliver(&mut book(), 0, stamp, 1), Err(8), "stamp {stamp}");
+    for stamp in [9, u32::MAX, u32::MAX - 3, u32::MAX - 4] {
+        assert_refused(book(), delivery(0, stamp, 1), 8);
+    }
+    for stamp in [4, 0] {
+        assert_refused(book(), delivery(0, stamp, 1), 9);
     }
 }
 
@@ -163,12 +157,11 @@ fn edges_of_volumes() {
     for (volume, number) in [(65_535, 12), (65_536, 4), (u32::MAX, 4)] {
         assert_eq!(deliver(&mut book(), 0, 8, volume), Err(number), "{volume}");
     }
-    let mut words = vec![0; Shape::new(2, 2, 16, 1).unwrap().book_length()];
-    make(&mut words, 2, 2, 16, 1).unwrap();
+    let mut words = made([2, 2, 16, 1]);
     assert_eq!(deliver(&mut words, 0, 0, 65_535), Ok(28));
     assert_eq!(deliver(&mut words, 0, 0, 2), Err(12));
     assert_eq!(deliver(&mut words, 0, 0, 1), Ok(1));
-    assert_eq!(query(&words, 0, 1), Ok(65_536));
+    assert_sums(&words, &[(1, 65_536)]);
 }
 
 #[test]
@@ -223,10 +216,8 @@ fn edges_of_shapes() {
 
 #[test]
 fn largest_book() {
-    let shape = Shape::new(20, 1024, 24, 8).unwrap();
-    assert_eq!(shape.book_length(), 1_229_624);
-    let mut words = vec![9; shape.book_length()];
-    make(&mut words, 20, 1024, 24, 8).unwrap();
+    let mut words = made([20, 1024, 24, 8]);
+    assert_eq!(words.len(), 1_229_624);
     clock(&mut words, 2_000_000_000).unwrap();
     deliver(&mut words, 7, 2_000_000_000, 5).unwrap();
     assert_eq!(query(&words, 7, 1 << 20), Ok(5));

@@ -1,14 +1,18 @@
 //! Finding a day and replaying it: the example, the refusals and their order, and what is written.
 
-use draw::trace::EXAMPLE;
-use reference::calls::{clock, deliver, make, perform, query, Answer, Reply};
+mod common;
+
+use common::{assert_sums, feed};
+use draw::book::Book;
+use draw::random::Random;
+use draw::shapes;
+use draw::trace::{day, records, room, Drawn, EXAMPLE};
+use reference::calls::{perform, Reply};
 use reference::replay::{answer_words, calls, find_day, replay, ANSWER_WORDS};
 use reference::trace::{lay_out, Record};
 
 fn made() -> Vec<u32> {
-    let mut book = vec![0; 90];
-    make(&mut book, 2, 2, 4, 1).unwrap();
-    book
+    common::made(shapes::EXAMPLE)
 }
 
 #[test]
@@ -18,11 +22,8 @@ fn the_example() {
     replay(&mut book, &EXAMPLE, 1, &mut answers).unwrap();
     assert_eq!(answers, [0, 0, 0, 0, 0, 0, 0, 0, 0, 1, 7]);
     let mut expected = made();
-    clock(&mut expected, 3).unwrap();
-    for (stamp, volume) in [(0, 3), (3, 1), (1, 1)] {
-        deliver(&mut expected, 0, stamp, volume).unwrap();
-    }
-    assert_eq!(query(&expected, 0, 2), Ok(1));
+    feed(&mut expected, 3, &[(0, 3), (3, 1), (1, 1)]);
+    assert_sums(&expected, &[(2, 1)]);
     assert_eq!(book, expected);
 }
 
@@ -105,7 +106,7 @@ fn a_refused_record_does_not_stop_the_replay() {
     let numbers: Vec<u32> = answers.iter().step_by(ANSWER_WORDS).copied().collect();
     assert_eq!(numbers, [0, 3, 4, 8, 10, 12, 6, 5, 0]);
     assert!(answers.iter().skip(1).step_by(2).all(|sum| *sum == 0));
-    assert_eq!(query(&book, 0, 2), Ok(16));
+    assert_sums(&book, &[(2, 16)]);
 }
 
 /// Each record is answered as it would be by itself, on a book that no call takes.
@@ -131,17 +132,35 @@ fn a_short_or_damaged_book_refuses_each_record() {
     }
 }
 
+/// On books and traces of every kind a replay is its calls, one after another. So what ledger.rs and quiet.rs
+/// find of calls holds of replays.
 #[test]
 fn as_separate_calls() {
-    let (mut book, mut answers) = (made(), [7; 10]);
-    let replies = replay(&mut book, &EXAMPLE, 1, &mut answers).unwrap();
-    let mut apart = made();
-    let calls = calls(&EXAMPLE, 1, 10).unwrap().into_iter();
-    let expected: Vec<Reply> = calls.map(|call| perform(&mut apart, call)).collect();
-    let words: Vec<u32> = expected.iter().copied().flat_map(answer_words).collect();
-    assert_eq!((book, &answers[..]), (apart, &words[..]));
-    assert_eq!(replies, expected);
-    // The second delivery splits a bucket, of which its words say nothing.
-    assert_eq!(replies[2], Ok(Answer::Splits(1)));
-    assert_eq!(answer_words(replies[2]), [0, 0]);
+    let random = &mut Random::new(1);
+    let mut met = [0; 3];
+    for index in 0..6_000 {
+        let Book { shape, words, .. } = Book::draw(random, index);
+        if words.len() > 1_000 {
+            continue;
+        }
+        let trace = Drawn::draw(random, shape, &words).words;
+        let day = day(random, trace.first().copied().unwrap_or(0));
+        let room = room(random, records(&trace, day));
+        let (mut book, mut answers) = (words.clone(), vec![7; room]);
+        let found = replay(&mut book, &trace, day, &mut answers);
+        let (mut apart, mut written) = (words, Vec::new());
+        let expected = calls(&trace, day, room).map(|calls| -> Vec<Reply> {
+            let each = calls.into_iter().map(|call| perform(&mut apart, call));
+            each.collect()
+        });
+        for reply in expected.iter().flatten() {
+            written.extend(answer_words(*reply));
+            met[usize::from(reply.is_ok())] += 1;
+        }
+        written.resize(room, 7);
+        met[2] += usize::from(expected.is_err());
+        assert_eq!(found, expected, "day {day} of {trace:?}");
+        assert_eq!((book, answers), (apart, written), "day {day} of {trace:?}");
+    }
+    assert!(met.iter().all(|count| *count > 1_000), "{met:?}");
 }

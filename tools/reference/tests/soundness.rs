@@ -1,10 +1,14 @@
 //! Every condition of a sound head and of a sound block broken alone, and numbers that are right
 //! only modulo 2^32.
 
+mod common;
+
+use common::{assert_sums, made};
+use draw::shapes::within;
 use reference::calls::{clock, deliver, make, query};
 use reference::layout;
 use reference::shape::Shape;
-use reference::soundness::{block_faults, Fault};
+use reference::soundness::{block_faults, Fault, Fault::*};
 use reference::words::decode_block;
 
 const TOP: u32 = 1 << 31;
@@ -12,7 +16,7 @@ const MAX: u32 = u32::MAX;
 
 /// Four ticks, two slots, levels 0 to 2, one grade.
 fn small() -> Shape {
-    Shape::new(2, 2, 2, 1).unwrap()
+    within([2, 2, 2, 1])
 }
 
 /// A sound book of the small shape at clock 7. The even histogram has evicted nothing, the odd one
@@ -64,72 +68,52 @@ fn assert_refused(words: &[u32], number: u32) {
 type Case = (usize, usize, [u32; 8], &'static [Fault]);
 
 const LEVEL_0: [Case; 22] = [
-    (0, 0, [3, 0, 0, 1, 3, 1, 1, 1], &[Fault::Count]),
-    (0, 0, [MAX, 0, 0, 1, 3, 1, 1, 1], &[Fault::Count]),
-    (0, 0, [1, 0, 0, 1, 4, 1, 0, 0], &[Fault::Unused]),
-    (0, 0, [1, 0, 0, 1, 4, 0, 1, 0], &[Fault::Unused]),
-    (0, 0, [1, 0, 0, 1, 4, 0, 0, 1], &[Fault::Unused]),
-    (1, 0, [2, 1, 1, 1, 4, 3, 1, 1], &[Fault::Excess]),
-    (0, 0, [1, 0, 0, 1, 3, 0, 0, 0], &[Fault::Missing]),
-    (0, 0, [0, 0, 0, 0, 0, 0, 0, 0], &[Fault::Missing]),
-    (
-        0,
-        0,
-        [1, 0, 0, 1, 5, 0, 0, 0],
-        &[Fault::Excess, Fault::Missing],
-    ),
-    (1, 0, [1, 1, 3, 1, 1, 0, 0, 0], &[Fault::Spare]),
-    (
-        1,
-        0,
-        [0, 4, 0, 0, 0, 0, 0, 0],
-        &[Fault::Spare, Fault::First],
-    ),
-    (
-        1,
-        0,
-        [2, 4, 4, 1, 1, 5, 1, 1],
-        &[Fault::First, Fault::Offset],
-    ),
-    (1, 0, [2, 1, 3, 1, 1, 1, 1, 1], &[Fault::Order]),
-    (1, 0, [2, 1, 3, 1, 1, 3, 1, 1], &[Fault::Order]),
-    (1, 0, [2, 2, 1, 1, 1, 3, 1, 1], &[Fault::Offset]),
-    (1, 0, [2, 1, 1, 1, 1, 4, 1, 1], &[Fault::Offset]),
-    (1, 0, [2, 1, 1, 1, 1, MAX, 1, 1], &[Fault::Offset]),
-    (1, 0, [2, 1, 1, 2, 1, 3, 1, 1], &[Fault::Tick]),
-    (1, 0, [2, 1, 1, 1, 1, 3, 0, 1], &[Fault::Tick]),
-    (1, 0, [2, 1, 1, 1, 0, 3, 1, 1], &[Fault::Weightless]),
-    (1, 0, [2, 1, 1, 1, 1, 3, 1, 0], &[Fault::Weightless]),
-    (0, 0, [2, 0, 0, 1, 4, 1, 1, 0], &[Fault::Weightless]),
+    (0, 0, [3, 0, 0, 1, 3, 1, 1, 1], &[Count]),
+    (0, 0, [MAX, 0, 0, 1, 3, 1, 1, 1], &[Count]),
+    (0, 0, [1, 0, 0, 1, 4, 1, 0, 0], &[Unused]),
+    (0, 0, [1, 0, 0, 1, 4, 0, 1, 0], &[Unused]),
+    (0, 0, [1, 0, 0, 1, 4, 0, 0, 1], &[Unused]),
+    (1, 0, [2, 1, 1, 1, 4, 3, 1, 1], &[Excess]),
+    (0, 0, [1, 0, 0, 1, 3, 0, 0, 0], &[Missing]),
+    (0, 0, [0, 0, 0, 0, 0, 0, 0, 0], &[Missing]),
+    (0, 0, [1, 0, 0, 1, 5, 0, 0, 0], &[Excess, Missing]),
+    (1, 0, [1, 1, 3, 1, 1, 0, 0, 0], &[Spare]),
+    (1, 0, [0, 4, 0, 0, 0, 0, 0, 0], &[Spare, First]),
+    (1, 0, [2, 4, 4, 1, 1, 5, 1, 1], &[First, Offset]),
+    (1, 0, [2, 1, 3, 1, 1, 1, 1, 1], &[Order]),
+    (1, 0, [2, 1, 3, 1, 1, 3, 1, 1], &[Order]),
+    (1, 0, [2, 2, 1, 1, 1, 3, 1, 1], &[Offset]),
+    (1, 0, [2, 1, 1, 1, 1, 4, 1, 1], &[Offset]),
+    (1, 0, [2, 1, 1, 1, 1, MAX, 1, 1], &[Offset]),
+    (1, 0, [2, 1, 1, 2, 1, 3, 1, 1], &[Tick]),
+    (1, 0, [2, 1, 1, 1, 1, 3, 0, 1], &[Tick]),
+    (1, 0, [2, 1, 1, 1, 0, 3, 1, 1], &[Weightless]),
+    (1, 0, [2, 1, 1, 1, 1, 3, 1, 0], &[Weightless]),
+    (0, 0, [2, 0, 0, 1, 4, 1, 1, 0], &[Weightless]),
 ];
 
 const OTHER_LEVELS: [Case; 21] = [
-    (0, 1, [3, 0, 0, 2, 2, 2, 2, 2], &[Fault::Count]),
-    (
-        1,
-        1,
-        [3, 2, 2, 1, 2, 3, 1, 2],
-        &[Fault::Count, Fault::Spare],
-    ),
-    (0, 2, [1, 0, 0, 4, 4, 0, 0, 9], &[Fault::Unused]),
-    (1, 1, [2, 2, 2, 1, 3, 3, 1, 2], &[Fault::Excess]),
-    (0, 2, [1, 0, 0, 4, 3, 0, 0, 0], &[Fault::Missing]),
-    (0, 1, [1, 0, 0, 4, 3, 0, 0, 0], &[Fault::Missing]),
-    (1, 1, [1, 2, 2, 2, 3, 0, 0, 0], &[Fault::Spare]),
-    (1, 1, [2, 1, 2, 1, 2, 3, 1, 2], &[Fault::Start]),
-    (1, 1, [2, 3, 2, 1, 2, 3, 1, 2], &[Fault::Start]),
-    (1, 1, [2, 0, 2, 1, 2, 3, 1, 2], &[Fault::Start]),
-    (0, 1, [2, 0, 0, 1, 2, 2, 2, 2], &[Fault::Gap]),
-    (0, 1, [2, 0, 0, 4, 2, 2, 2, 2], &[Fault::Gap]),
-    (0, 1, [2, 0, 0, 1, 2, 1, 1, 2], &[Fault::End]),
-    (0, 1, [2, 0, 0, 4, 2, 4, 4, 2], &[Fault::End]),
-    (0, 2, [1, 0, 0, 8, 4, 0, 0, 0], &[Fault::End]),
-    (0, 1, [2, 0, 0, 3, 2, 3, 1, 2], &[Fault::Alignment]),
-    (0, 1, [2, 1, 1, 2, 2, 3, 1, 2], &[Fault::Alignment]),
-    (0, 1, [2, 0, 0, 0, 2, 0, 4, 2], &[Fault::Alignment]),
-    (0, 1, [1, 0, 0, 4, 4, 0, 0, 0], &[Fault::Heavy]),
-    (0, 1, [2, 0, 0, 2, 1, 2, 2, 3], &[Fault::Light]),
-    (1, 1, [2, 2, 2, 1, 1, 3, 1, 2], &[Fault::Light]),
+    (0, 1, [3, 0, 0, 2, 2, 2, 2, 2], &[Count]),
+    (1, 1, [3, 2, 2, 1, 2, 3, 1, 2], &[Count, Spare]),
+    (0, 2, [1, 0, 0, 4, 4, 0, 0, 9], &[Unused]),
+    (1, 1, [2, 2, 2, 1, 3, 3, 1, 2], &[Excess]),
+    (0, 2, [1, 0, 0, 4, 3, 0, 0, 0], &[Missing]),
+    (0, 1, [1, 0, 0, 4, 3, 0, 0, 0], &[Missing]),
+    (1, 1, [1, 2, 2, 2, 3, 0, 0, 0], &[Spare]),
+    (1, 1, [2, 1, 2, 1, 2, 3, 1, 2], &[Start]),
+    (1, 1, [2, 3, 2, 1, 2, 3, 1, 2], &[Start]),
+    (1, 1, [2, 0, 2, 1, 2, 3, 1, 2], &[Start]),
+    (0, 1, [2, 0, 0, 1, 2, 2, 2, 2], &[Gap]),
+    (0, 1, [2, 0, 0, 4, 2, 2, 2, 2], &[Gap]),
+    (0, 1, [2, 0, 0, 1, 2, 1, 1, 2], &[End]),
+    (0, 1, [2, 0, 0, 4, 2, 4, 4, 2], &[End]),
+    (0, 2, [1, 0, 0, 8, 4, 0, 0, 0], &[End]),
+    (0, 1, [2, 0, 0, 3, 2, 3, 1, 2], &[Alignment]),
+    (0, 1, [2, 1, 1, 2, 2, 3, 1, 2], &[Alignment]),
+    (0, 1, [2, 0, 0, 0, 2, 0, 4, 2], &[Alignment]),
+    (0, 1, [1, 0, 0, 4, 4, 0, 0, 0], &[Heavy]),
+    (0, 1, [2, 0, 0, 2, 1, 2, 2, 3], &[Light]),
+    (1, 1, [2, 2, 2, 1, 1, 3, 1, 2], &[Light]),
 ];
 
 #[test]
@@ -137,9 +121,7 @@ fn undamaged_book_is_accepted() {
     let mut words = sound();
     assert_eq!(faults(&words), []);
     // Offsets 3 to 0 of the odd histogram; only its last level still keeps offset 0.
-    for (window, sum) in [(0, 0), (1, 1), (2, 1), (3, 2), (4, 4)] {
-        assert_eq!(query(&words, 0, window), Ok(sum), "window {window}");
-    }
+    assert_sums(&words, &[(0, 0), (1, 1), (2, 1), (3, 2), (4, 4)]);
     assert_eq!(deliver(&mut words, 0, 5, 1), Err(12));
     assert_eq!(clock(&mut words, 8), Ok(()));
     assert_eq!(deliver(&mut words, 0, 8, 4), Ok(1));
@@ -160,19 +142,18 @@ fn total_above_the_capacity_is_found() {
     words[8] = 5;
     words[8..][small().level(0, 1)].copy_from_slice(&[2, 0, 0, 2, 2, 2, 2, 3]);
     words[8..][small().level(0, 2)].copy_from_slice(&[1, 0, 0, 4, 5, 0, 0, 0]);
-    assert_eq!(faults(&words), [Fault::Total]);
+    assert_eq!(faults(&words), [Total]);
     assert_refused(&words, 11);
 }
 
 #[test]
 fn level_without_a_bucket_is_found() {
-    let mut words = vec![0; small().book_length()];
-    make(&mut words, 2, 2, 2, 1).unwrap();
+    let mut words = made([2, 2, 2, 1]);
     words[layout::CLOCK] = 7;
     for (parity, index) in [(0, 1), (0, 2), (1, 1), (1, 2)] {
         let mut words = words.clone();
         words[8..][small().level(parity, index)].fill(0);
-        assert_eq!(faults(&words), [Fault::Empty]);
+        assert_eq!(faults(&words), [Empty]);
         assert_refused(&words, 11);
     }
 }
@@ -197,10 +178,8 @@ fn numbers_right_only_modulo_2_to_the_32() {
     words[9] = MAX;
     assert_refused(&words, 11);
     // 2^30 more slots change the length by a multiple of 2^32.
-    let shape = Shape::new(2, 2, 1, 1).unwrap();
-    let mut words = vec![0; shape.book_length()];
+    let mut words = made([2, 2, 1, 1]);
     assert_eq!(make(&mut words, 2, 2 + (1 << 30), 1, 1), Err(1));
-    make(&mut words, 2, 2, 1, 1).unwrap();
     words[1] += 1 << 30;
     assert_refused(&words, 7);
 }

@@ -1,20 +1,17 @@
 //! How many buckets a delivery splits (document 02's halvings, request Four).
 
-use draw::calls::{call_of, Source};
+mod common;
+
+use common::{delivery, made};
 use draw::random::Random;
-use draw::shapes::{self, Makes};
+use draw::shapes::{self, within};
 use draw::sound;
-use draw::view::Words;
-use reference::calls::{clock, deliver, make, perform, Answer, Call};
+use reference::calls::{clock, perform, Answer};
 use reference::histogram::{Histogram, Level};
 use reference::protocol::answer;
-use reference::replay::answer_words;
+use reference::replay::{answer_words, ANSWER_WORDS};
 use reference::shape::Shape;
 use reference::words::decode_block;
-
-fn shape(k: u32, n: u32, m: u32) -> Shape {
-    Shape::new(k, n, m, 1).unwrap()
-}
 
 /// The splits of each level for a volume in a fresh half.
 fn of_levels(shape: Shape, offset: u64, volume: u64) -> Vec<u32> {
@@ -28,18 +25,14 @@ fn of_levels(shape: Shape, offset: u64, volume: u64) -> Vec<u32> {
 fn a_volume_that_outlasts_its_bucket() {
     // Level 1 splits at 4, then at 2 more, which evicts the half at offset 1. The last three are
     // ignored: they split nothing.
-    assert_eq!(of_levels(shape(3, 2, 6), 1, 9), [0, 2, 1, 0, 0, 0, 0]);
-    let mut words = vec![0; shape(3, 2, 6).book_length()];
-    make(&mut words, 3, 2, 6, 1).unwrap();
-    clock(&mut words, 7).unwrap();
-    assert_eq!(deliver(&mut words, 0, 1, 9), Ok(3));
+    assert_eq!(of_levels(within([3, 2, 6, 1]), 1, 9), [0, 2, 1, 0, 0, 0, 0]);
 }
 
 /// The decilitre that reaches the limit splits, also where it is the last.
 #[test]
 fn a_split_that_leaves_nothing_to_insert() {
     for (volume, splits) in [(3, 0), (4, 1), (5, 1), (6, 2), (7, 2), (8, 3), (9, 3)] {
-        let found = of_levels(shape(3, 9, 1), 7, volume);
+        let found = of_levels(within([3, 9, 1, 1]), 7, volume);
         assert_eq!(found, [0, splits], "{volume}");
     }
 }
@@ -51,7 +44,7 @@ fn fresh_halves() {
     let mut random = Random::new(1);
     for _ in 0..2_000 {
         let (k, m) = (random.between(2, 20), random.between(1, 24));
-        let shape = shape(k, random.between(2, 24), m);
+        let shape = within([k, random.between(2, 24), m, 1]);
         let volume = random.between(1, 65_535.min(1 << m)) >> random.below(16);
         let expected = |most: u32| -> Vec<u32> {
             let full = |index: u32| (volume >> index).saturating_sub(1);
@@ -91,11 +84,9 @@ fn buckets_gained_by_unit_steps() {
             for _ in 0..volume {
                 let before = steps.clone();
                 steps.insert_unit(shape, index, offset);
-                expected += if index == 0 {
-                    0
-                } else {
-                    gained(&before, &steps)
-                };
+                if index > 0 {
+                    expected += gained(&before, &steps);
+                }
             }
             let mut whole = level.clone();
             let found = whole.insert(shape, index, offset, volume);
@@ -113,33 +104,13 @@ fn buckets_gained_by_unit_steps() {
     assert!(splits > 300 && evicting > 100 && most > 3, "{met:?}");
 }
 
-/// Books that calls grow: at most k splits for each level above 0, and what is printed or replayed does
-/// not tell them.
+/// What is printed or replayed does not tell the splits.
 #[test]
-fn random_runs() {
-    let shapes = [[2, 2, 4, 1], [3, 2, 6, 2], [4, 6, 10, 1], [8, 20, 16, 1]];
-    for (seed, [k, n, m, g]) in (1..).zip(shapes) {
-        let shape = Shape::new(k, n, m, g).unwrap();
-        let mut source = Source::new(seed, Makes::Same);
-        source.pace.volume = 300;
-        let mut words = vec![0; shape.book_length()];
-        perform(&mut words, call_of(shape.numbers())).unwrap();
-        let (mut refused, mut splits) = (0, 0);
-        for _ in 0..4_000 {
-            let call = source.call(&Words::new(shape, &words));
-            let reply = perform(&mut words, call);
-            match (call, reply) {
-                (Call::Delivery { .. }, Ok(Answer::Splits(count))) => {
-                    assert!(count <= k * m, "{call:?}: {count}");
-                    assert_eq!(answer(reply), "ok");
-                    assert_eq!(answer_words(reply), [0, 0]);
-                    splits += count;
-                }
-                (Call::Delivery { .. }, Err(_)) => refused += 1,
-                (Call::Delivery { .. }, _) | (_, Ok(Answer::Splits(_))) => panic!("{call:?}"),
-                _ => {}
-            }
-        }
-        assert!(refused > 100 && splits > 100, "{refused} {splits}");
-    }
+fn splits_are_not_told() {
+    let mut words = made([3, 2, 6, 1]);
+    clock(&mut words, 7).unwrap();
+    let reply = perform(&mut words, delivery(0, 1, 9));
+    assert_eq!(reply, Ok(Answer::Splits(3)));
+    assert_eq!(answer(reply), "ok");
+    assert_eq!(answer_words(reply), [0; ANSWER_WORDS]);
 }

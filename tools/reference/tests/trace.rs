@@ -120,17 +120,13 @@ fn sums_do_not_wrap() {
 fn kinds_and_rests() {
     for found in [0, 4, 257, 65_537, (1 << 31) + 1, u32::MAX] {
         let (day, word) = (0, 11);
-        assert_eq!(
-            fault(&[(word, found)]),
-            Some(Fault::Kind { day, word, found })
-        );
+        let kind = Fault::Kind { day, word, found };
+        assert_eq!(fault(&[(word, found)]), Some(kind));
     }
     for (day, word) in [(0, 9), (0, 10), (2, 18)] {
         for found in [1, 1 << 31, u32::MAX] {
-            assert_eq!(
-                fault(&[(word, found)]),
-                Some(Fault::Rest { day, word, found })
-            );
+            let rest = Fault::Rest { day, word, found };
+            assert_eq!(fault(&[(word, found)]), Some(rest));
         }
     }
     // Every other word of a record is a number of its call, and may be anything.
@@ -168,33 +164,22 @@ fn records_are_calls() {
 
 #[test]
 fn faults_in_words() {
-    let texts = [
-        (fault(&[(0, 65)]), "word 0: 65 days, at most 64"),
-        (fault(&[(5, 9)]), "word 5: day 2 starts at 9, not 15"),
-        (
-            fault(&[(6, 3)]),
-            "word 6: day 2 has 3 words, no whole records",
-        ),
-        (
-            fault(&[(6, 8)]),
-            "word 6: day 2 ends at 23, after the trace",
-        ),
-        (fault(&[(6, 0)]), "word 15: it follows the last day"),
-        (fault(&[(7, 4)]), "word 7: day 0 has a record of kind 4"),
-        (
-            fault(&[(10, 5)]),
-            "word 10: day 0 has a record with 5 in place of 0",
-        ),
-        (
-            days(&[]).err(),
-            "there is no word, not even a count of days",
-        ),
-        (
-            days(&[2, 5]).err(),
-            "the pairs end at word 5, after the trace",
-        ),
+    let of_days = [
+        ((0, 65), "word 0: 65 days, at most 64"),
+        ((5, 9), "word 5: day 2 starts at 9, not 15"),
+        ((6, 3), "word 6: day 2 has 3 words, no whole records"),
+        ((6, 8), "word 6: day 2 ends at 23, after the trace"),
+        ((6, 0), "word 15: it follows the last day"),
+        ((7, 4), "word 7: day 0 has a record of kind 4"),
+        ((10, 5), "word 10: day 0 has a record with 5 in place of 0"),
     ];
-    for (fault, text) in texts {
+    let of_words: [(&[u32], &str); 2] = [
+        (&[], "there is no word, not even a count of days"),
+        (&[2, 5], "the pairs end at word 5, after the trace"),
+    ];
+    let of_days = of_days.map(|(set, text)| (fault(&[set]), text));
+    let of_words = of_words.map(|(trace, text)| (days(trace).err(), text));
+    for (fault, text) in of_days.into_iter().chain(of_words) {
         assert_eq!(fault.map(|fault| fault.to_string()).as_deref(), Some(text));
     }
 }

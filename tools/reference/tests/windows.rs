@@ -1,7 +1,10 @@
 //! Windows and lateness as document 02, request One, has them: which stamps a window covers, where
 //! it opens, and that windows laid end to end count each delivery once.
 
-use reference::calls::{clock, deliver, make, query, Call};
+mod common;
+
+use common::{assert_sums, feed, made};
+use reference::calls::{clock, query, Call};
 use reference::ledger::Ledger;
 use reference::shape::Shape;
 use reference::window::{opening, window_from};
@@ -41,45 +44,16 @@ fn openings() {
 }
 
 #[test]
-fn window_from_an_opening() {
-    for (clock, opening, window) in [
-        (0, 0, Some(1)),
-        (8, 8, Some(1)),
-        (8, 5, Some(4)),
-        (8, 0, Some(9)),
-        (8, 9, None),
-        (MAX, MAX, Some(1)),
-        (MAX, 1, Some(MAX)),
-        (MAX, 0, None),
-    ] {
-        assert_eq!(window_from(clock, opening), window, "{clock} {opening}");
-    }
-}
-
-#[test]
 fn window_from_gives_the_window_that_opens_there() {
     for clock in 0..40 {
         for stamp in 0..=clock {
             let window = window_from(clock, stamp).unwrap();
             assert_eq!(opening(clock, window), Some(stamp.into()));
         }
+        assert_eq!(window_from(clock, clock + 1), None);
     }
-}
-
-#[test]
-fn window_covers_its_ticks_up_to_the_clock() {
-    let ledger = ledger_at(9);
-    let covered = |window| -> Vec<u32> {
-        let stamps = 0..20;
-        stamps.filter(|s| ledger.covers(window, *s)).collect()
-    };
-    assert_eq!(covered(0), []);
-    assert_eq!(covered(1), [9]);
-    assert_eq!(covered(2), [8, 9]);
-    assert_eq!(covered(9), [1, 2, 3, 4, 5, 6, 7, 8, 9]);
-    assert_eq!(covered(10), [0, 1, 2, 3, 4, 5, 6, 7, 8, 9]);
-    assert_eq!(covered(MAX), covered(10));
-    assert!(!ledger.covers(MAX, MAX));
+    let windows = [MAX, 1, 0].map(|opening| window_from(MAX, opening));
+    assert_eq!(windows, [Some(1), Some(MAX), None]);
 }
 
 /// The condition of document 02 as a sum, which needs no case for a window that exceeds the clock.
@@ -93,9 +67,12 @@ fn windows_cover_what_the_document_says() {
                 assert_eq!(ledger.covers(window, stamp), covered);
             }
         }
+        assert!((0..=clock).all(|stamp| ledger.covers(MAX, stamp)));
+        assert!(!ledger.covers(MAX, MAX));
     }
 }
 
+/// k, a clock and the oldest stamp that is not late there.
 #[test]
 fn oldest_stamps() {
     for (k, clock, oldest) in [
@@ -103,29 +80,16 @@ fn oldest_stamps() {
         (2, 3, 0),
         (2, 4, 1),
         (2, 8, 5),
+        (20, (1 << 20) - 1, 0),
+        (20, 1 << 20, 1),
         (20, MAX, MAX - (1 << 20) + 1),
     ] {
-        assert_eq!(shape(k).oldest(clock), oldest, "{k} {clock}");
-    }
-}
-
-#[test]
-fn late_stamps() {
-    for (k, clock, stamp, late) in [
-        (2, 0, 0, false),
-        (2, 3, 0, false),
-        (2, 4, 0, true),
-        (2, 4, 1, false),
-        (2, 8, 3, true),
-        (2, 8, 4, true),
-        (2, 8, 5, false),
-        (20, 1 << 20, 0, true),
-        (20, (1 << 20) - 1, 0, false),
-        (20, MAX, MAX, false),
-        (20, MAX, MAX - (1 << 20), true),
-        (20, MAX, MAX - (1 << 20) + 1, false),
-    ] {
-        assert_eq!(shape(k).is_late(clock, stamp), late, "{k} {clock} {stamp}");
+        let shape = shape(k);
+        assert_eq!(shape.oldest(clock), oldest, "{k} {clock}");
+        assert!(!shape.is_late(clock, oldest) && !shape.is_late(clock, clock));
+        for stamp in oldest.saturating_sub(2)..oldest {
+            assert!(shape.is_late(clock, stamp), "{k} {clock} {stamp}");
+        }
     }
 }
 
@@ -169,15 +133,11 @@ fn windows_end_to_end_cover_each_stamp_once() {
 /// A site that asks for the last `ticks` each time that as many have passed.
 fn read_end_to_end(k: u32, ticks: u32, end: u32) -> (u64, u64) {
     // As many slots as an interval has ticks, so that each sum is exact.
-    let shape = Shape::new(k, 1 << k, 20, 1).unwrap();
-    let mut words = vec![0; shape.book_length()];
-    let [k, n, m, g] = shape.numbers();
-    make(&mut words, k, n, m, g).unwrap();
+    let mut words = made([k, 1 << k, 20, 1]);
     let (mut delivered, mut read) = (0, 0);
     for now in 0..=end {
-        clock(&mut words, now).unwrap();
         // Each volume is another, so that no error can make up for another one.
-        deliver(&mut words, 0, now, now * now + 1).unwrap();
+        feed(&mut words, now, &[(now, now * now + 1)]);
         delivered += u64::from(now * now + 1);
         if (now + 1) % ticks == 0 {
             read += query(&words, 0, ticks).unwrap();
@@ -202,15 +162,13 @@ fn readings_end_to_end_add_up_to_all_deliveries() {
 fn delivery_on_the_seam_is_counted_once() {
     for seam in [1, 2, 3, 4, 5, 7, 8, 9, 11, 12, 13] {
         for window in 1..=4 {
-            let mut words = vec![0; Shape::new(2, 4, 4, 1).unwrap().book_length()];
-            make(&mut words, 2, 4, 4, 1).unwrap();
-            clock(&mut words, seam).unwrap();
-            deliver(&mut words, 0, seam, 1).unwrap();
-            assert_eq!(query(&words, 0, window), Ok(1), "{seam} {window}");
+            let mut words = made([2, 4, 4, 1]);
+            feed(&mut words, seam, &[(seam, 1)]);
+            assert_sums(&words, &[(window, 1)]);
             clock(&mut words, seam + window).unwrap();
-            assert_eq!(query(&words, 0, window), Ok(0), "{seam} {window}");
+            assert_sums(&words, &[(window, 0)]);
             if window < 4 {
-                assert_eq!(query(&words, 0, window + 1), Ok(1), "{seam} {window}");
+                assert_sums(&words, &[(window + 1, 1)]);
             }
         }
     }
@@ -220,16 +178,11 @@ fn delivery_on_the_seam_is_counted_once() {
 /// one before, or at 0.
 #[test]
 fn longest_window_as_the_clock_passes_the_edges() {
-    let mut words = vec![0; Shape::new(2, 4, 6, 1).unwrap().book_length()];
-    make(&mut words, 2, 4, 6, 1).unwrap();
+    let mut words = made([2, 4, 6, 1]);
     for now in 0..=8 {
-        clock(&mut words, now).unwrap();
-        deliver(&mut words, 0, now, now + 1).unwrap();
-        let sum: u64 = (now.saturating_sub(3)..=now)
-            .map(|s| u64::from(s + 1))
-            .sum();
-        assert_eq!(query(&words, 0, 4), Ok(sum), "clock {now}");
-        assert_eq!(query(&words, 0, 0), Ok(0), "clock {now}");
-        assert_eq!(query(&words, 0, 1), Ok(u64::from(now) + 1), "clock {now}");
+        feed(&mut words, now, &[(now, now + 1)]);
+        let stamps = now.saturating_sub(3)..=now;
+        let sum = stamps.map(|stamp| u64::from(stamp) + 1).sum();
+        assert_sums(&words, &[(4, sum), (0, 0), (1, u64::from(now) + 1)]);
     }
 }

@@ -7,6 +7,7 @@ use std::process::{Command, Output};
 use std::{env, fs, process};
 
 use draw::trace::EXAMPLE;
+use litres::Refused;
 
 /// A folder of this test's own, removed at its end.
 struct Folder(PathBuf);
@@ -58,10 +59,9 @@ fn bytes(words: &[u32]) -> Vec<u8> {
     words.iter().flat_map(|word| word.to_le_bytes()).collect()
 }
 
-fn words_of(file: &Path) -> Vec<u32> {
-    let content = fs::read(file).expect("a written file");
-    let words = content.as_chunks().0.iter();
-    words.map(|word| u32::from_le_bytes(*word)).collect()
+/// The lines that the program prints for the trace of a file.
+fn lines_of(file: &Path) -> String {
+    String::from_utf8(printed(&[Path::new("print"), file])).expect("text")
 }
 
 const LINES: &str = "c 3\nd 0 0 3\nd 0 3 1\nd 0 1 1\nq 0 2\n";
@@ -74,11 +74,10 @@ fn the_example_there_and_back() {
     let [make, dash_o] = ["make", "-o"].map(PathBuf::from);
     let silent = printed(&[&make, &dash_o, &output, &empty, &day]);
     assert_eq!(silent, b"");
-    assert_eq!(words_of(&output), EXAMPLE);
+    assert_eq!(fs::read(&output).unwrap(), bytes(&EXAMPLE));
     assert_eq!(printed(&[&make, &empty, &day]), bytes(&EXAMPLE));
-    let text = String::from_utf8(printed(&[&PathBuf::from("print"), &output])).unwrap();
     let head = "days 2, words 25\nday 0: start 5, words 0\nday 1: start 5, words 20\n";
-    assert_eq!(text, format!("{head}{LINES}"));
+    assert_eq!(lines_of(&output), format!("{head}{LINES}"));
 }
 
 #[test]
@@ -93,15 +92,10 @@ fn the_last_newline_may_be_missing() {
 fn lines_that_are_no_records() {
     let folder = Folder::new("lines");
     let good = folder.file("good", "c 1\n");
-    for (line, reason) in [
-        ("m 2 2 4 1", "a trace records no make"),
-        ("c", "no line of the bench protocol"),
-        ("c 03", "no line of the bench protocol"),
-        ("d 0 0 4294967296", "no line of the bench protocol"),
-        ("q 0 2 ", "no line of the bench protocol"),
-        ("", "no line of the bench protocol"),
-        ("c 3\r", "no line of the bench protocol"),
-    ] {
+    let unread = ["c", "c 03", "d 0 0 4294967296", "q 0 2 ", "", "c 3\r"];
+    let unread = unread.map(|line| (line, "no line of the bench protocol"));
+    let make = ("m 2 2 4 1", "a trace records no make");
+    for (line, reason) in unread.into_iter().chain([make]) {
         let bad = folder.file("bad", format!("c 1\n{line}\nc 2\n"));
         let said = trouble(&[Path::new("make"), &good, &bad], 1);
         let expected = format!("{}, line 2: {reason}\n", bad.display());
@@ -125,19 +119,18 @@ fn broken_layouts_are_explained() {
         let file = folder.file(name, content);
         let said = trouble(&[Path::new("print"), &file], 1);
         let prefix = format!("{}: ", file.display());
-        said.strip_prefix(&prefix)
-            .expect("the file's name")
-            .to_string()
+        let reason = said.strip_prefix(&prefix);
+        reason.expect("the file's name").to_string()
     };
-    let after = |set: &[(usize, u32)]| {
+    for (word, value, reason) in [
+        (3, 6, "word 3: day 1 starts at 6, not 5\n"),
+        (9, 4, "word 9: day 1 has a record of kind 4\n"),
+        (24, 7, "word 24: day 1 has a record with 7 in place of 0\n"),
+    ] {
         let mut words = EXAMPLE;
-        set.iter().for_each(|(word, value)| words[*word] = *value);
-        said("words", &bytes(&words))
-    };
-    assert_eq!(after(&[(3, 6)]), "word 3: day 1 starts at 6, not 5\n");
-    assert_eq!(after(&[(9, 4)]), "word 9: day 1 has a record of kind 4\n");
-    let rest = "word 24: day 1 has a record with 7 in place of 0\n";
-    assert_eq!(after(&[(24, 7)]), rest);
+        words[word] = value;
+        assert_eq!(said("words", &bytes(&words)), reason);
+    }
     let half = &bytes(&EXAMPLE)[..98];
     assert_eq!(said("half", half), "98 bytes are no whole 32-bit words\n");
     let none = "there is no word, not even a count of days\n";
@@ -165,12 +158,9 @@ fn two_days_merged() {
     let words = merge(&odd, "1", &even, "1");
     let to_file = [&[OsStr::new("-o"), output.as_os_str()], &words[..]].concat();
     assert_eq!(printed(&to_file), b"");
-    let text = String::from_utf8(printed(&[Path::new("print"), &output])).unwrap();
     let head = "days 1, words 27\nday 0: start 3, words 24\n";
-    assert_eq!(
-        text,
-        format!("{head}c 1\nd 0 1 5\nc 2\nd 0 0 7\nc 3\nq 0 2\n")
-    );
+    let merged = "c 1\nd 0 1 5\nc 2\nd 0 0 7\nc 3\nq 0 2\n";
+    assert_eq!(lines_of(&output), format!("{head}{merged}"));
     let output = fs::read(output).expect("a written file");
     assert_eq!(printed(&words), output);
     assert_eq!(printed(&merge(&even, "1", &odd, "1")), output);
@@ -184,23 +174,14 @@ fn days_that_are_not_merged() {
     let trace = folder.file("trace", bytes(&EXAMPLE));
     let broken = folder.file("broken", bytes(&EXAMPLE[..24]));
     let disorder = folder.file("disorder", bytes(&[1, 3, 4, 3, 0, 2, 0]));
-    let cases = [
-        (
-            merge(&trace, "2", &broken, "1"),
-            "broken, day 1: refused 13, the trace breaks its layout or has an unsound record\n",
-        ),
-        (
-            merge(&disorder, "0", &trace, "2"),
-            "trace, day 2: refused 14, the trace has no such day\n",
-        ),
-        (
-            merge(&trace, "1", &disorder, "0"),
-            "disorder, day 0: refused 16, a day opens with no clock, or clocks fall or pass 2000000000\n",
-        ),
-    ];
-    for (words, reason) in cases {
+    for (words, named, number) in [
+        (merge(&trace, "2", &broken, "1"), "broken, day 1", 13),
+        (merge(&disorder, "0", &trace, "2"), "trace, day 2", 14),
+        (merge(&trace, "1", &disorder, "0"), "disorder, day 0", 16),
+    ] {
         let said = trouble(&words, 1);
-        assert!(said.ends_with(&format!("/{reason}")), "{said}");
+        let end = format!("/{named}: refused {number}, {}\n", Refused(number));
+        assert!(said.ends_with(&end), "{said}");
         assert_eq!(said.lines().count(), 1, "{said}");
     }
     // Both are told where both are at fault.
@@ -210,10 +191,8 @@ fn days_that_are_not_merged() {
     assert!(said.contains("trace, day 2: refused 14"), "{said}");
     let half = folder.file("half", &bytes(&EXAMPLE)[..98]);
     let said = trouble(&merge(&trace, "0", &half, "0"), 1);
-    assert!(
-        said.ends_with("half: 98 bytes are no whole 32-bit words\n"),
-        "{said}"
-    );
+    let end = "half: 98 bytes are no whole 32-bit words\n";
+    assert!(said.ends_with(end), "{said}");
 }
 
 #[test]

@@ -13,7 +13,7 @@ impl Caller<'_> {
     }
 
     /// The numbers of a question.
-    pub fn grade_and_window(&mut self) -> (u32, u32) {
+    pub(crate) fn grade_and_window(&mut self) -> (u32, u32) {
         (self.grade(), self.window())
     }
 
@@ -23,11 +23,9 @@ impl Caller<'_> {
         // In the first interval a window can be the clock or exceed it.
         let many_edges = self.is_beside_border() || now < ticks;
         if self.is_edge() || self.is_edge() {
-            let long = self.random.one_in(4);
-            return if long {
-                self.long_window()
-            } else {
-                self.edge_window()
+            return match self.random.one_in(4) {
+                true => self.long_window(),
+                false => self.edge_window(),
             };
         }
         if many_edges && self.random.one_in(2) {

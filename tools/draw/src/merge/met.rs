@@ -7,9 +7,12 @@ use reference::refusal;
 use reference::shape::Shape;
 use reference::trace::{calls, days, RECORD_WORDS};
 
+use crate::tally::{names, that_hold};
+
 /// What each side can be refused for by itself: no trace, no such day, a day out of order. 0 is nothing.
 const OWN: [u32; 4] = [0, refusal::TRACE, refusal::DAY, refusal::ORDER];
 const SIDES: [&str; 2] = ["the first day", "the second day"];
+/// In the order of `Disorder`.
 const DISORDERS: [&str; 3] = [
     "opens without a clock",
     "has a clock that falls",
@@ -59,24 +62,15 @@ const LENGTHS: [&str; 9] = [
 
 /// Every kind that there is.
 pub fn all() -> Vec<String> {
-    let pairs = OWN
-        .into_iter()
-        .flat_map(|first| OWN.map(|second| [first, second]));
-    let refused = pairs.filter(|pair| *pair != [0, 0]).map(refused_by);
-    let also_long = OWN
-        .into_iter()
-        .filter(|number| *number != 0)
-        .map(and_length);
-    let disorders = SIDES
-        .into_iter()
-        .flat_map(|side| DISORDERS.map(|why| of_side(side, why)));
-    let lists: [&[&str]; 6] = [&NEARLY, &EMPTY, &TIMES, &CLOCKS, &TRACES, &LENGTHS];
-    let names = lists.concat().into_iter().map(str::to_string);
-    names
-        .chain(refused)
-        .chain(also_long)
-        .chain(disorders)
-        .collect()
+    let mut all = names(&[&NEARLY, &EMPTY, &TIMES, &CLOCKS, &TRACES, &LENGTHS]);
+    let sides = OWN.map(|first| OWN.map(|second| refused_by([first, second])));
+    // The first of each refuses nothing.
+    all.extend(sides.into_iter().flatten().skip(1));
+    all.extend(OWN.into_iter().skip(1).map(and_length));
+    for side in SIDES {
+        all.extend(DISORDERS.map(|why| of_side(side, why)));
+    }
+    all
 }
 
 fn refused_by([first, second]: [u32; 2]) -> String {
@@ -101,7 +95,6 @@ pub fn kinds(named: [Named; 2], room: usize) -> Vec<String> {
     }
 }
 
-/// The days of a merge that is accepted or refused for a later reason.
 fn found(named: [Named<'_>; 2]) -> [&[u32]; 2] {
     named.map(|named| named.find().expect("a day that is there"))
 }
@@ -126,11 +119,6 @@ fn out_of_order(side: &str, day: &[u32]) -> Vec<String> {
     let Err(disorder) = home_clocks(day) else {
         return Vec::new();
     };
-    let why = match disorder {
-        Disorder::Opening => DISORDERS[0],
-        Disorder::Fall => DISORDERS[1],
-        Disorder::Limit => DISORDERS[2],
-    };
     let clocks = clocks_set(day);
     let falls_by_one = |two: &[u32]| two[0].checked_sub(1) == Some(two[1]);
     let nearly = [
@@ -138,8 +126,8 @@ fn out_of_order(side: &str, day: &[u32]) -> Vec<String> {
         disorder == Disorder::Fall && clocks.windows(2).any(falls_by_one),
         disorder == Disorder::Limit && clocks.contains(&(Shape::CLOCK_MAX + 1)),
     ];
-    let mut kinds = vec![of_side(side, why)];
-    kinds.extend(that_hold(NEARLY, nearly));
+    let mut kinds = vec![of_side(side, DISORDERS[disorder as usize])];
+    kinds.extend(that_hold(NEARLY.into_iter().zip(nearly)));
     kinds
 }
 
@@ -172,8 +160,8 @@ fn accepted(named: [Named; 2], days: [&[u32]; 2]) -> Vec<String> {
         same,
         same && named[0].day == named[1].day && !days[0].is_empty(),
     ];
-    kinds.extend(that_hold(CLOCKS, of_clocks));
-    kinds.extend(that_hold(TRACES, of_traces));
+    kinds.extend(that_hold(CLOCKS.into_iter().zip(of_clocks)));
+    kinds.extend(that_hold(TRACES.into_iter().zip(of_traces)));
     kinds
 }
 
@@ -202,11 +190,6 @@ pub fn clocks_set(day: &[u32]) -> Vec<u32> {
         _ => None,
     };
     calls(day).filter_map(clock).collect()
-}
-
-fn that_hold<const N: usize>(names: [&str; N], hold: [bool; N]) -> impl Iterator<Item = String> {
-    let both = names.map(str::to_string).into_iter().zip(hold);
-    both.filter(|(_, holds)| *holds).map(|(name, _)| name)
 }
 
 fn length_name(days: [&[u32]; 2], room: usize) -> &'static str {

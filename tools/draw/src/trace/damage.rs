@@ -8,36 +8,28 @@ use crate::damage::{any_word, changed};
 use crate::random::Random;
 
 /// A change of a sound trace, where it has what the change needs.
-#[derive(Clone, Copy)]
-pub enum Change {
-    /// Of single words.
-    Words(fn(&mut Random, &mut [u32])),
-    /// Of the whole, so that its length changes too.
-    Whole(fn(&mut Random, &mut Vec<u32>)),
-}
-
-use Change::{Whole, Words};
+type Change = fn(&mut Random, &mut Vec<u32>);
 
 /// Each kind of damage with its name.
 pub const KINDS: [(&str, Change); 18] = [
-    ("no words", Whole(|_, trace| trace.clear())),
-    ("65 days", Whole(one_day_too_many)),
-    ("the count changed", Words(count_word)),
-    ("an offset changed", Words(offset_word)),
-    ("a length changed", Words(length_word)),
-    ("a boundary moved", Words(moved_boundary)),
-    ("ends right modulo 2^32 only", Words(wrapped_ends)),
-    ("a day started elsewhere", Words(moved_start)),
-    ("two days exchanged", Words(exchanged_days)),
-    ("a pair copied", Words(copied_pair)),
-    ("words too many", Whole(more_words)),
-    ("words missing", Whole(fewer_words)),
-    ("a day of broken records", Whole(broken_records)),
-    ("another kind", Words(other_kind)),
-    ("a nonzero rest", Words(nonzero_rest)),
-    ("a record moved by a word", Words(moved_record)),
-    ("a word changed", Words(any_word)),
-    ("random words", Whole(random_words)),
+    ("no words", |_, trace| trace.clear()),
+    ("65 days", one_day_too_many),
+    ("the count changed", |r, t| count_word(r, t)),
+    ("an offset changed", |r, t| place_word(r, t, offset)),
+    ("a length changed", |r, t| place_word(r, t, length)),
+    ("a boundary moved", |r, t| moved_boundary(r, t)),
+    ("ends right modulo 2^32 only", |r, t| wrapped_ends(r, t)),
+    ("a day started elsewhere", |r, t| moved_start(r, t)),
+    ("two days exchanged", |r, t| exchanged_days(r, t)),
+    ("a pair copied", |r, t| copied_pair(r, t)),
+    ("words too many", more_words),
+    ("words missing", fewer_words),
+    ("a day of broken records", broken_records),
+    ("another kind", |r, t| other_kind(r, t)),
+    ("a nonzero rest", |r, t| nonzero_rest(r, t)),
+    ("a record moved by a word", |r, t| moved_record(r, t)),
+    ("a word changed", |r, t| any_word(r, t)),
+    ("random words", random_words),
 ];
 
 /// Damages a trace in one way and names it.
@@ -45,10 +37,7 @@ pub fn damage(random: &mut Random, trace: &mut Vec<u32>) -> &'static str {
     loop {
         let (name, change) = random.pick(&KINDS);
         let mut other = trace.clone();
-        match change {
-            Words(change) => change(random, &mut other),
-            Whole(change) => change(random, &mut other),
-        }
+        change(random, &mut other);
         if other != *trace {
             *trace = other;
             return name;
@@ -56,17 +45,14 @@ pub fn damage(random: &mut Random, trace: &mut Vec<u32>) -> &'static str {
     }
 }
 
-/// The word of a day's offset.
 fn offset(day: usize) -> usize {
     pair(day).start
 }
 
-/// The word of a day's length.
 fn length(day: usize) -> usize {
     pair(day).end - 1
 }
 
-/// Any day, if there is one.
 fn any_day(random: &mut Random, trace: &[u32]) -> Option<usize> {
     let count = u64::from(trace[0]);
     (count > 0).then(|| random.below(count) as usize)
@@ -112,28 +98,19 @@ fn count_word(random: &mut Random, trace: &mut [u32]) {
     };
 }
 
-fn offset_word(random: &mut Random, trace: &mut [u32]) {
-    if let Some(day) = any_day(random, trace) {
-        trace[offset(day)] = place(random, trace, trace[offset(day)]);
-    }
-}
-
-fn length_word(random: &mut Random, trace: &mut [u32]) {
-    if let Some(day) = any_day(random, trace) {
-        trace[length(day)] = place(random, trace, trace[length(day)]);
-    }
-}
-
-/// Another place or length: a record away, at an end of the trace or of the numbers.
-fn place(random: &mut Random, trace: &[u32], word: u32) -> u32 {
-    let record = RECORD_WORDS as u32;
-    match random.below(6) {
+/// Another offset or length of a day: a record away, at an end of the trace or of the numbers.
+fn place_word(random: &mut Random, trace: &mut [u32], place: fn(usize) -> usize) {
+    let Some(day) = any_day(random, trace) else {
+        return;
+    };
+    let (word, record) = (trace[place(day)], RECORD_WORDS as u32);
+    trace[place(day)] = match random.below(6) {
         0 => word.wrapping_add(record),
         1 => word.wrapping_sub(record),
         2 => random.pick(&[0, trace.len() as u32, pairs_end(trace[0] as usize) as u32]),
         3 => random.pick(&[u32::MAX, u32::MAX - 3, 1 << 31, 1 << 30]),
         _ => changed(random, word),
-    }
+    };
 }
 
 /// One day grows by so many words, a later one shrinks by as many and what lies between them moves, all
@@ -247,14 +224,11 @@ fn moved_record(random: &mut Random, trace: &mut [u32]) {
 
 /// Mostly few and small, so that a count and some pairs can fit by chance.
 fn random_words(random: &mut Random, trace: &mut Vec<u32>) {
-    let length = random.between(1, 40) as usize;
-    let small = !random.one_in(4);
-    let mut word = |_| {
-        if small {
-            random.between(0, 9)
-        } else {
-            random.word()
-        }
+    let length = random.between(1, 40);
+    let is_small = !random.one_in(4);
+    let word = |_| match is_small {
+        true => random.between(0, 9),
+        false => random.word(),
     };
-    *trace = (0..length).map(&mut word).collect();
+    *trace = (0..length).map(word).collect();
 }

@@ -1,11 +1,14 @@
 //! What a replay meets: in which way a trace is broken, where the day stands that is asked for, and how
 //! much room there is for the answers. A long run must show every kind.
 
+use std::cmp::Ordering;
+
 use reference::refusal;
 use reference::replay::{find_day, ANSWER_WORDS};
 use reference::trace::{days, pair, pairs_end, Fault, CLOCK, DAYS_MAX, RECORD_WORDS};
 
 use super::records;
+use crate::tally::{names, that_hold};
 
 /// Faults of a trace as a whole.
 const WHOLE: [&str; 5] = [
@@ -60,40 +63,30 @@ const ROOMS: [&str; 9] = [
 
 /// Every kind that there is.
 pub fn all() -> Vec<String> {
-    let placed = OF_A_DAY.iter().flat_map(|fault| {
-        let at = move |place: &&str| format!("{fault} in {place}");
-        PLACES.iter().map(at)
-    });
-    let lists: [&[&str]; 5] = [&WHOLE, &TWICE, &NO_DAY, &WHICH, &ROOMS];
-    let names = lists.concat().into_iter().map(str::to_string);
-    names.chain(placed).collect()
+    let mut all = names(&[&WHOLE, &TWICE, &NO_DAY, &WHICH, &ROOMS]);
+    for fault in OF_A_DAY {
+        all.extend(PLACES.map(|place| format!("{fault} in {place}")));
+    }
+    all
 }
 
 /// The kinds of a replay of this day with so many answer words.
 pub fn kinds(trace: &[u32], day: u32, room: usize) -> Vec<String> {
     match find_day(trace, day) {
         Ok(part) => found(trace, day, part.len() / RECORD_WORDS, room),
-        Err(refusal::DAY) => strings(&no_day(trace, day, room)),
+        Err(refusal::DAY) => no_day(trace, day, room),
         Err(_) => broken(trace, day, room),
     }
 }
 
-fn strings(names: &[&str]) -> Vec<String> {
-    names.iter().map(|name| name.to_string()).collect()
-}
-
 fn broken(trace: &[u32], day: u32, room: usize) -> Vec<String> {
     let fault = days(trace).expect_err("no trace");
-    let mut kinds = vec![match fault.day() {
-        None => fault_name(trace, fault).to_string(),
-        Some(at) => {
-            let place = match at.cmp(&(day as usize)) {
-                std::cmp::Ordering::Equal => PLACES[0],
-                std::cmp::Ordering::Less => PLACES[1],
-                std::cmp::Ordering::Greater => PLACES[2],
-            };
-            format!("{} in {place}", fault_name(trace, fault))
-        }
+    let name = fault_name(trace, fault);
+    let mut kinds = vec![match fault.day().map(|at| at.cmp(&(day as usize))) {
+        None => name.to_string(),
+        Some(Ordering::Equal) => format!("{name} in {}", PLACES[0]),
+        Some(Ordering::Less) => format!("{name} in {}", PLACES[1]),
+        Some(Ordering::Greater) => format!("{name} in {}", PLACES[2]),
     }];
     if trace.first().is_none_or(|count| day >= *count) {
         kinds.push(TWICE[0].to_string());
@@ -130,18 +123,15 @@ fn fault_name(trace: &[u32], fault: Fault) -> &'static str {
     }
 }
 
-fn no_day(trace: &[u32], day: u32, room: usize) -> Vec<&'static str> {
+fn no_day(trace: &[u32], day: u32, room: usize) -> Vec<String> {
     let count = trace[0];
-    let mut kinds = vec![match day - count {
+    let kind = match day - count {
         _ if count == 0 => NO_DAY[0],
         0 => NO_DAY[1],
         1 => NO_DAY[2],
         _ => NO_DAY[3],
-    }];
-    if lacks_room(trace, day, room) {
-        kinds.push(TWICE[2]);
-    }
-    kinds
+    };
+    that_hold([(kind, true), (TWICE[2], lacks_room(trace, day, room))])
 }
 
 fn found(trace: &[u32], day: u32, records: usize, room: usize) -> Vec<String> {
@@ -153,10 +143,8 @@ fn found(trace: &[u32], day: u32, records: usize, room: usize) -> Vec<String> {
         day + 1 == count,
         records > 0 && day > 0 && is_empty(day - 1),
     ];
-    let met = WHICH.iter().zip(places).filter(|(_, holds)| *holds);
-    let mut kinds: Vec<&str> = met.map(|(name, _)| *name).collect();
-    kinds.push(room_name(records, room));
-    strings(&kinds)
+    let which = WHICH.into_iter().zip(places);
+    that_hold(which.chain([(room_name(records, room), true)]))
 }
 
 fn room_name(records: usize, room: usize) -> &'static str {

@@ -173,7 +173,7 @@ const Q: Record = [3, 0, 1, 0];
 /// they have.
 fn merged(first: &[Record], second: &[Record], more: isize) -> String {
     let [first, second] = [first, second].map(|day| lay_out(&[day.concat()]));
-    let room = (first.len() + second.len() - 6).strict_add_signed(more);
+    let room = (first.len() + second.len() - 6).saturating_add_signed(more);
     let named = [&first, &second].map(|trace| Named { trace, day: 0 });
     merge::met::kinds(named, room).join(", ")
 }

@@ -1,12 +1,7 @@
-//! Merges through the archive: what is written and what is refused, beside the second program's judgement. No
-//! test here depends on the order of records at an equal clock.
+//! Merges through the archive. No test here depends on the order of records at an equal clock. Drawn days are
+//! merged through the same calls by `compare merges`.
 
-use draw::merge::{met, Drawn};
-use draw::random::Random;
-use draw::shapes::{within, EXAMPLE};
-use draw::tally::Tally;
 use litres::{merge, Refused};
-use reference::merge::{judge, sources, Named};
 use reference::trace::{lay_out, Record};
 
 const CLOCK_1: Record = [1, 1, 0, 0];
@@ -49,29 +44,4 @@ fn empty_days() {
     assert_eq!(merged(at(0), at(1), 8), Ok(day.clone()));
     assert_eq!(merged(at(1), at(2), 8), Ok(day));
     assert_eq!(merged(at(2), at(0), 1), Err(Refused::OUTPUT));
-}
-
-/// Every pair of refusals, every disorder, every kind of length and a day with itself; `merges` compares many
-/// more of them.
-#[test]
-fn drawn_merges() {
-    let random = &mut Random::new(1);
-    let mut kinds = Tally::new(met::all(), 1);
-    for _ in 0..6_000 {
-        let drawn = Drawn::draw(random, within(EXAMPLE));
-        let named = drawn.named();
-        let [first, second] = named.map(|Named { trace, day }| (trace, day));
-        let found = merged(first, second, drawn.room);
-        match judge(named, drawn.room) {
-            Ok(days) => {
-                let out = found.expect("the second program accepts it");
-                assert!(sources(days, &out).is_some(), "{out:?} from {days:?}");
-            }
-            Err(number) => assert_eq!(found, Err(Refused(number)), "{named:?}"),
-        }
-        for kind in met::kinds(named, drawn.room) {
-            kinds.add(&kind);
-        }
-    }
-    assert_eq!(kinds.faults(), Vec::<String>::new());
 }

@@ -1,15 +1,11 @@
-//! Traces through the archive: the week of docs/SPECIFICATION.md, 18, and replays beside the second program.
+//! Traces through the archive: the week of docs/SPECIFICATION.md, 18. Drawn traces are replayed through the same
+//! calls by `compare replays`.
 
 mod common;
 
 use common::made;
-use draw::book::{other_length, Book};
-use draw::random::Random;
-use draw::tally::Tally;
-use draw::trace::{day, met, records, room, Drawn, EXAMPLE};
+use draw::trace::EXAMPLE;
 use litres::{find_day, replay, Refused};
-use reference::protocol::answer;
-use reference::refusal;
 
 #[test]
 fn the_example() {
@@ -64,43 +60,4 @@ fn an_empty_day_needs_no_room() {
     assert_eq!(replay(&mut [], &EXAMPLE, 0, &mut []), Ok(()));
     assert_eq!(replay(&mut [], &[0], 0, &mut []), Err(Refused::DAY));
     assert_eq!(replay(&mut [], &[], 0, &mut []), Err(Refused::TRACE));
-}
-
-/// Every fault of a trace, every room and refused records, on books of every kind, some of them short. What a
-/// refused replay leaves is compared too.
-#[test]
-fn drawn_replays() {
-    let random = &mut Random::new(4);
-    let mut kinds = Tally::new(met::all(), 1);
-    // No record is a make.
-    let numbers = refusal::CALLS.filter(|number| *number != refusal::SHAPE);
-    let mut answers = Tally::of_answers(numbers, &[], 1);
-    for index in 0..12_000 {
-        let Book {
-            shape, mut words, ..
-        } = Book::draw(random, index);
-        if words.len() > 1_000 {
-            continue;
-        }
-        let trace = Drawn::draw(random, shape, &words).words;
-        let day = day(random, trace.first().copied().unwrap_or(0));
-        let room = room(random, records(&trace, day));
-        if random.one_in(8) {
-            words.resize(other_length(random, words.len(), 2), 0);
-        }
-        let mut ours = (words, vec![7; room]);
-        let mut second = ours.clone();
-        let found = replay(&mut ours.0, &trace, day, &mut ours.1);
-        let expected = reference::replay::replay(&mut second.0, &trace, day, &mut second.1);
-        assert_eq!(found.err(), expected.as_ref().err().copied().map(Refused));
-        assert_eq!(ours, second, "day {day} of {trace:?}");
-        for reply in expected.unwrap_or_default() {
-            answers.add_answer(&answer(reply));
-        }
-        for kind in met::kinds(&trace, day, room) {
-            kinds.add(&kind);
-        }
-    }
-    assert_eq!(kinds.faults(), Vec::<String>::new());
-    assert_eq!(answers.faults(), Vec::<String>::new());
 }

@@ -5,7 +5,7 @@ use std::cmp::Ordering;
 
 use reference::refusal;
 use reference::replay::{find_day, ANSWER_WORDS};
-use reference::trace::{days, pair, pairs_end, Fault, CLOCK, DAYS_MAX, RECORD_WORDS};
+use reference::trace::{days, pair, pairs_end, Fault, Why, CLOCK, DAYS_MAX, RECORD_WORDS};
 
 use super::records;
 use crate::tally::{names, that_hold};
@@ -82,12 +82,12 @@ pub fn kinds(trace: &[u32], day: u32, room: usize) -> Vec<String> {
 fn broken(trace: &[u32], day: u32, room: usize) -> Vec<String> {
     let fault = days(trace).expect_err("no trace");
     let name = fault_name(trace, fault);
-    let mut kinds = vec![match fault.day().map(|at| at.cmp(&(day as usize))) {
-        None => name.to_string(),
-        Some(Ordering::Equal) => format!("{name} in {}", PLACES[0]),
-        Some(Ordering::Less) => format!("{name} in {}", PLACES[1]),
-        Some(Ordering::Greater) => format!("{name} in {}", PLACES[2]),
-    }];
+    let place = fault.day.map(|at| match at.cmp(&(day as usize)) {
+        Ordering::Equal => PLACES[0],
+        Ordering::Less => PLACES[1],
+        Ordering::Greater => PLACES[2],
+    });
+    let mut kinds = vec![place.map_or(name.to_string(), |place| format!("{name} in {place}"))];
     if trace.first().is_none_or(|count| day >= *count) {
         kinds.push(TWICE[0].to_string());
     } else if lacks_room(trace, day, room) {
@@ -101,20 +101,20 @@ fn lacks_room(trace: &[u32], day: u32, room: usize) -> bool {
 }
 
 fn fault_name(trace: &[u32], fault: Fault) -> &'static str {
-    match fault {
-        Fault::Empty => WHOLE[0],
-        Fault::Count(count) if count == DAYS_MAX + 1 => WHOLE[1],
-        Fault::Count(_) => WHOLE[2],
-        Fault::Pairs(_) => WHOLE[3],
-        Fault::Follows(_) => WHOLE[4],
-        Fault::Offset { .. } => OF_A_DAY[0],
-        Fault::Length { .. } => OF_A_DAY[1],
-        Fault::End { .. } => OF_A_DAY[2],
-        Fault::Kind { .. } => OF_A_DAY[3],
-        Fault::Rest { word, .. } => {
+    match fault.why {
+        Why::Empty => WHOLE[0],
+        Why::Count(count) if count == DAYS_MAX + 1 => WHOLE[1],
+        Why::Count(_) => WHOLE[2],
+        Why::Pairs => WHOLE[3],
+        Why::Follows => WHOLE[4],
+        Why::Offset(..) => OF_A_DAY[0],
+        Why::Length(_) => OF_A_DAY[1],
+        Why::End(_) => OF_A_DAY[2],
+        Why::Kind(_) => OF_A_DAY[3],
+        Why::Rest(_) => {
             let first = pairs_end(trace[0] as usize);
-            let place = (word - first) % RECORD_WORDS;
-            match (trace[word - place], place) {
+            let place = (fault.word - first) % RECORD_WORDS;
+            match (trace[fault.word - place], place) {
                 (CLOCK, 2) => OF_A_DAY[4],
                 (CLOCK, _) => OF_A_DAY[5],
                 _ => OF_A_DAY[6],

@@ -106,11 +106,14 @@ fn sound_traces_are_sound() {
     }
 }
 
+/// Where a make is refused, each of the four numbers is at times the only one outside its limits, and at
+/// times none of them is.
 #[test]
 fn makes_are_accepted_or_refused_as_asked() {
     let random = &mut Random::new(11);
     let medium = [12, 40, 18, 2];
     let length = |numbers: Numbers| Makes::Length(within(numbers).book_length());
+    let is_shape = |[k, n, m, g]: Numbers| Shape::new(k, n, m, g).is_some();
     for (makes, start) in [
         (Makes::UpTo(BUFFER_WORDS), EXAMPLE),
         (Makes::UpTo(700), EXAMPLE),
@@ -118,33 +121,20 @@ fn makes_are_accepted_or_refused_as_asked() {
         (length(medium), medium),
         (Makes::Same, EXAMPLE),
     ] {
-        let mut current = within(start);
+        let (mut current, mut reasons) = (within(start), [0; 5]);
         for _ in 0..2_000 {
             let numbers = makes.refused(random, current);
             assert_eq!(makes.shape(current, numbers), None, "{numbers:?}");
+            reasons[4] += u32::from(is_shape(numbers));
+            for place in (0..4).filter(|_| !is_shape(numbers)) {
+                let mut mended = numbers;
+                mended[place] = EXAMPLE[place];
+                reasons[place] += u32::from(is_shape(mended));
+            }
             let numbers = makes.accepted(random, current);
             let shape = makes.shape(current, numbers);
             current = shape.unwrap_or_else(|| panic!("{makes:?}: {numbers:?}"));
         }
+        assert!(reasons.iter().all(|count| *count > 100), "{reasons:?}");
     }
-}
-
-/// In a buffer a make is refused for its length or for its shape, and each of the four numbers is
-/// at times the only one outside its limits.
-#[test]
-fn makes_are_refused_for_every_reason() {
-    let random = &mut Random::new(12);
-    let is_shape = |[k, n, m, g]: Numbers| Shape::new(k, n, m, g).is_some();
-    let mut reasons = [0; 5];
-    for _ in 0..2_000 {
-        let numbers = Makes::UpTo(BUFFER_WORDS).refused(random, within(EXAMPLE));
-        let is_long = is_shape(numbers);
-        reasons[4] += u32::from(is_long);
-        for (place, right) in EXAMPLE.into_iter().enumerate() {
-            let mut mended = numbers;
-            mended[place] = right;
-            reasons[place] += u32::from(!is_long && is_shape(mended));
-        }
-    }
-    assert!(reasons.iter().all(|count| *count > 100), "{reasons:?}");
 }

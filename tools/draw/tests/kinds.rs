@@ -155,9 +155,11 @@ fn c(clock: u32) -> Record {
 const MOST: u32 = Shape::CLOCK_MAX;
 const Q: Record = [3, 0, 1, 0];
 
+type Day<'a> = &'a [Record];
+
 /// The kinds of a merge of two days, each the only one of its trace, into so many words more or less than
 /// they have.
-fn merged(first: &[Record], second: &[Record], more: isize) -> String {
+fn merged(first: Day, second: Day, more: isize) -> String {
     let [first, second] = [first, second].map(|day| lay_out(&[day.concat()]));
     let room = (first.len() + second.len() - 6).saturating_add_signed(more);
     let named = [&first, &second].map(|trace| Named { trace, day: 0 });
@@ -172,7 +174,7 @@ fn kinds_of_accepted_merges() {
     let before = "the first day before the second";
     let twice = "the first day before the second, a clock set twice in a day";
     let limit = "the second day before the first, a clock at the limit";
-    let rows: [(&[Record], &[Record], &str); 7] = [
+    let rows: [(Day, Day, &str); 7] = [
         (&[c(1), c(2)], &[c(3)], before),
         (&[c(MOST)], &[c(3)], limit),
         (&[c(1), c(3)], &[c(2), Q], at_once),
@@ -201,7 +203,7 @@ fn kinds_of_accepted_merges() {
 
 #[test]
 fn kinds_of_refused_merges() {
-    let good: &[Record] = &[c(2), Q];
+    let good: Day = &[c(2), Q];
     let broken = [4, 0, 0, 0];
     let first = "16 by the first, 0 by the second";
     let second = "0 by the first, 16 by the second";
@@ -213,7 +215,7 @@ fn kinds_of_refused_merges() {
     let limit = "a clock past the limit by one";
     let longer = "16, and another length";
     let unsound = "13 by the first, 16 by the second";
-    let rows: [(&[Record], &[Record], isize, &[&str]); 8] = [
+    let rows: [(Day, Day, isize, &[&str]); 8] = [
         (&[Q], good, 0, &[first, opens, last]),
         (&[Q, c(2)], good, 0, &[first, opens]),
         (&[c(5), c(4)], good, 0, &[first, falls, last, fall]),

@@ -61,10 +61,6 @@ pub fn kinds(named: [Named; 2], room: usize) -> Vec<String> {
     }
 }
 
-fn found(named: [Named<'_>; 2]) -> [&[u32]; 2] {
-    named.map(|named| named.find().expect("a day that is there"))
-}
-
 fn refused(named: [Named; 2], number: u32, room: usize) -> Vec<String> {
     let own = |named: Named| match named.find().map(home_clocks) {
         Err(number) => number,
@@ -75,7 +71,8 @@ fn refused(named: [Named; 2], number: u32, room: usize) -> Vec<String> {
         kinds.push(and_length(number));
     }
     if number == refusal::ORDER {
-        let sides = SIDES.into_iter().zip(found(named));
+        let days = named.map(|named| named.find().expect("a day that is there"));
+        let sides = SIDES.into_iter().zip(days);
         kinds.extend(sides.flat_map(|(side, day)| out_of_order(side, day)));
     }
     kinds
@@ -92,21 +89,15 @@ fn out_of_order(side: &str, day: &[u32]) -> Vec<String> {
 
 /// How near to a day in order one is that is not.
 fn nearly(day: &[u32], disorder: Disorder) -> Cases<3> {
-    let (falls, passes) = (disorder == Disorder::Fall, disorder == Disorder::Limit);
-    let before = home_clocks(&day[..day.len() - RECORD_WORDS]);
     let clocks = clocks_set(day);
+    let before = home_clocks(&day[..day.len() - RECORD_WORDS]);
     let by_one = |two: &[u32]| two[0].checked_sub(1) == Some(two[1]);
-    let next = Shape::CLOCK_MAX + 1;
+    let falls = disorder == Disorder::Fall && clocks.windows(2).any(by_one);
+    let passes = disorder == Disorder::Limit && clocks.contains(&(Shape::CLOCK_MAX + 1));
     [
         ("the last record alone out of order", before.is_ok()),
-        (
-            "a clock that falls by one",
-            falls && clocks.windows(2).any(by_one),
-        ),
-        (
-            "a clock past the limit by one",
-            passes && clocks.contains(&next),
-        ),
+        ("a clock that falls by one", falls),
+        ("a clock past the limit by one", passes),
     ]
 }
 
@@ -131,34 +122,24 @@ fn order(days: [&[u32]; 2]) -> Cases<7> {
 /// What stands twice in two days in order, and at the ends of the clocks.
 fn clocks(named: [Named; 2], days: [&[u32]; 2]) -> Cases<8> {
     let [first, second] = days.map(|day| {
-        let clocks = home_clocks(day).expect("a day in order");
-        clocks
-            .into_iter()
-            .zip(day.chunks(RECORD_WORDS))
-            .collect::<Vec<_>>()
+        let clocks = home_clocks(day).expect("a day in order").into_iter();
+        clocks.zip(day.chunks(RECORD_WORDS)).collect::<Vec<_>>()
     });
     let set = days.map(clocks_set);
     let equal = set[0].iter().any(|clock| set[1].contains(clock));
-    let same_record = first.iter().any(|record| second.contains(record));
+    let record = first.iter().any(|record| second.contains(record));
     let twice = |clocks: &Vec<u32>| clocks.windows(2).any(|two| two[0] == two[1]);
+    let [zero, limit] = [0, Shape::CLOCK_MAX].map(|clock| set.concat().contains(&clock));
+    let disorder = named.into_iter().any(has_disorder);
     let same = std::ptr::eq(named[0].trace, named[1].trace);
     let same_day = same && named[0].day == named[1].day && !days[0].is_empty();
     [
         ("an equal clock in both days", equal),
-        (
-            "the same record at an equal clock in both days",
-            same_record,
-        ),
+        ("the same record at an equal clock in both days", record),
         ("a clock set twice in a day", set.iter().any(twice)),
-        ("a clock of 0", set.concat().contains(&0)),
-        (
-            "a clock at the limit",
-            set.concat().contains(&Shape::CLOCK_MAX),
-        ),
-        (
-            "another day out of order",
-            named.into_iter().any(has_disorder),
-        ),
+        ("a clock of 0", zero),
+        ("a clock at the limit", limit),
+        ("another day out of order", disorder),
         ("a trace with itself", same),
         ("a day with itself", same_day),
     ]

@@ -1,7 +1,7 @@
 //! Calls at the edges of windows and of lateness, where a mistake of one tick shows: of which kind a
 //! call is, and which kinds a long run must show.
 
-use reference::calls::{self, Answer, Call, Reply};
+use reference::calls::{sum_from, Answer, Call, Reply};
 use reference::ledger::Ledger;
 use reference::refusal;
 use reference::shape::Shape;
@@ -75,9 +75,10 @@ pub fn telling(book: &[u32], call: Call, reply: Reply) -> Vec<String> {
         return Vec::new();
     };
     let (shape, clock) = sound_head(decode_head(book)).expect("an accepted call");
+    let block = decode_block(shape, &book[shape.block(grade)]).map(|raw| raw.histogram());
+    let sum_of = |other| opening(clock, other).map_or(0, |at| sum_from(shape, clock, at, &block));
     let kinds = kinds(shape, clock, call, reply);
-    let differs = |other| sum_from(book, grade, opening(clock, other)) != sum;
-    by_neighbours(kinds, window, differs)
+    by_neighbours(kinds, window, |other| sum_of(other) != sum)
 }
 
 /// Each kind with the name of each neighbouring window that differs.
@@ -85,20 +86,12 @@ fn by_neighbours(kinds: Vec<String>, window: u32, differs: impl Fn(u32) -> bool)
     let shorter = window.checked_sub(1).map(|other| ("a tick less", other));
     let neighbours = shorter.into_iter().chain([("a tick more", window + 1)]);
     let names = neighbours.filter(|(_, other)| differs(*other));
-    names
-        .flat_map(|(name, _)| {
-            kinds
-                .iter()
-                .map(move |kind| format!("{kind}, told from {name}"))
-        })
-        .collect()
-}
-
-/// The sum of a sound book for a window that opens here; 0 where it opens nowhere.
-pub fn sum_from(book: &[u32], grade: u32, opening: Option<u64>) -> u64 {
-    let (shape, clock) = sound_head(decode_head(book)).expect("a sound book");
-    let block = decode_block(shape, &book[shape.block(grade)]).map(|raw| raw.histogram());
-    opening.map_or(0, |opening| calls::sum_from(shape, clock, opening, &block))
+    let told = |(name, _)| {
+        kinds
+            .iter()
+            .map(move |kind| format!("{kind}, told from {name}"))
+    };
+    names.flat_map(told).collect()
 }
 
 /// All kinds that there are: those that the example shows.

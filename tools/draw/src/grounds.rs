@@ -1,6 +1,7 @@
 //! Grounds (document 02, request Six): what is asked for, of which kind a ground is, and which kinds a long
 //! run must show.
 
+use reference::calls::Call;
 use reference::ground::{Finer, Ground};
 use reference::protocol::answer;
 use reference::refusal;
@@ -34,8 +35,10 @@ const REFUSALS: [u32; 5] = [
 pub fn draw(random: &mut Random, index: u64) -> (Vec<u32>, u32, u32) {
     let Book { shape, words, .. } = Book::draw(random, index);
     let mut source = Source::new(random.bits(), Makes::Same);
-    let view = Words::new(shape, &words);
-    let (grade, window) = source.caller(&view).grade_and_window();
+    let question = source.caller(&Words::new(shape, &words)).question();
+    let Call::Query { grade, window } = question else {
+        panic!("no question: {question:?}");
+    };
     (words, grade, window)
 }
 

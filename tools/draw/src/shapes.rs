@@ -122,7 +122,10 @@ impl Makes {
                 6..=7 => [other_k, n, m, g],
                 8 => random.pick(&of_length(k, current.book_length())),
                 9 => fullest(random, words),
-                10 => few_slots(random, words),
+                10 => {
+                    let [k, n, m, g] = fullest(random, words);
+                    [k, random.between(Shape::N_MIN, n.min(20)), m, g]
+                }
                 11..=13 => fitting(random, &MEDIUM, words),
                 _ => fitting(random, &SMALL, words),
             },
@@ -143,7 +146,10 @@ impl Makes {
         let mut numbers = current.numbers();
         let place = random.below(4) as usize;
         match random.below(10) {
-            0..=2 => numbers[place] = random.pick(&outside(place)),
+            0..=2 => {
+                let [least, most] = Shape::LIMITS[place];
+                numbers[place] = random.pick(&[0, least - 1, most + 1, u32::MAX]);
+            }
             3 => numbers[place] = random.word(),
             4 => numbers[place] = same_modulo_2_to_the_32(current)[place],
             5 => numbers = random.pick(&[SITE, SITE_OF_EIGHT, [20, 1024, 24, 8]]),
@@ -160,12 +166,6 @@ impl Makes {
         }
         numbers
     }
-}
-
-/// The numbers next to the limits of k, n, M or g, and far from them.
-fn outside(place: usize) -> [u32; 4] {
-    let [least, greatest] = Shape::LIMITS[place];
-    [0, least - 1, greatest + 1, u32::MAX]
 }
 
 /// One of those shapes that so many words hold, or the example.
@@ -190,14 +190,8 @@ fn fullest(random: &mut Random, words: usize) -> Numbers {
     }
 }
 
-/// The same with fewer slots.
-fn few_slots(random: &mut Random, words: usize) -> Numbers {
-    let [k, n, m, g] = fullest(random, words);
-    [k, random.between(Shape::N_MIN, n.min(20)), m, g]
-}
-
 /// All numbers with this k whose book has exactly so many words.
-pub fn of_length(k: u32, words: usize) -> Vec<Numbers> {
+fn of_length(k: u32, words: usize) -> Vec<Numbers> {
     let mut found = Vec::new();
     for m in Shape::M_MIN..=Shape::M_MAX {
         for g in Shape::G_MIN..=Shape::G_MAX {
@@ -208,22 +202,13 @@ pub fn of_length(k: u32, words: usize) -> Vec<Numbers> {
     found
 }
 
-/// The most slots for which a book has at most so many words, if there are any.
+/// The most slots for which a book has at most so many words, if there are any. Each slot more needs as many
+/// words as the one before.
 fn most_slots([k, m, g]: [u32; 3], words: usize) -> Option<u32> {
-    let holds = |n: u32| within([k, n, m, g]).book_length() <= words;
-    let (mut low, mut high) = (Shape::N_MIN, Shape::N_MAX);
-    if !holds(low) {
-        return None;
-    }
-    while low < high {
-        let middle = (low + high).div_ceil(2);
-        if holds(middle) {
-            low = middle;
-        } else {
-            high = middle - 1;
-        }
-    }
-    Some(low)
+    let length = |n: u32| within([k, n, m, g]).book_length();
+    let fewest = length(Shape::N_MIN);
+    let more = words.checked_sub(fewest)? / (length(Shape::N_MIN + 1) - fewest);
+    Some(Shape::N_MAX.min(Shape::N_MIN + more as u32))
 }
 
 /// For k, n, M and g another number, the others kept, with which the length of a book comes out

@@ -101,23 +101,19 @@ fn level_from_one(random: &mut Random, shape: Shape, index: usize, total: u64) -
     }
     let can_evict = n <= most && n < ticks;
     let most = most.min(n).min(ticks);
-    for _ in 0..ATTEMPTS {
-        let level = if can_evict && random.one_in(2) {
+    for attempt in 0..=ATTEMPTS {
+        let is_last = attempt == ATTEMPTS;
+        let level = if can_evict && (is_last || random.one_in(2)) {
             evicted_level(random, shape, index, total)
         } else {
-            let count = end_or_between(random, 2, most);
-            kept_level(random, shape, index, total, count)
+            let drawn = (!is_last).then(|| end_or_between(random, 2, most));
+            kept_level(random, shape, index, total, drawn.unwrap_or(most))
         };
         if let Some(level) = level {
             return level;
         }
     }
-    let plainest = if can_evict {
-        evicted_level(random, shape, index, total)
-    } else {
-        kept_level(random, shape, index, total, most)
-    };
-    plainest.expect("as many buckets as there can be take the total, or evicted ones leave it")
+    panic!("as many buckets as there can be take the total, or evicted ones leave it")
 }
 
 /// A level that evicted nothing: its weights are the total.

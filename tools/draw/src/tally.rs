@@ -63,8 +63,7 @@ impl Tally {
         }
     }
 
-    /// How often this kind occurred.
-    pub fn count(&self, kind: &str) -> u64 {
+    fn count(&self, kind: &str) -> u64 {
         self.counts.get(kind).copied().unwrap_or(0)
     }
 
@@ -115,10 +114,19 @@ pub(crate) fn names(lists: &[&[&str]]) -> Vec<String> {
     lists.concat().into_iter().map(str::to_string).collect()
 }
 
+/// Kinds, and whether something is of each.
+pub(crate) type Cases<const N: usize> = [(&'static str, bool); N];
+
 /// Those of these kinds that hold.
-pub(crate) fn that_hold<'k>(kinds: impl IntoIterator<Item = (&'k str, bool)>) -> Vec<String> {
+pub(crate) fn that_hold(kinds: impl IntoIterator<Item = (&'static str, bool)>) -> Vec<String> {
     let holding = kinds.into_iter().filter(|(_, holds)| *holds);
     holding.map(|(kind, _)| kind.to_string()).collect()
+}
+
+/// The first of these kinds that holds, which the last one does.
+pub(crate) fn first_that_holds(kinds: &[(&'static str, bool)]) -> (&'static str, bool) {
+    let mut holding = kinds.iter().filter(|(_, holds)| *holds);
+    *holding.next().expect("a kind that always holds")
 }
 
 /// An answer without what varies within its kind.

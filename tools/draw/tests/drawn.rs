@@ -4,17 +4,16 @@ use std::collections::BTreeSet;
 
 use draw::book::Book;
 use draw::random::Random;
-use draw::shapes::{self, of_length, within, Makes, Numbers, EXAMPLE, SITE};
+use draw::shapes::{self, within, Makes, Numbers, EXAMPLE};
 use draw::trace::Drawn;
 use draw::{merge, sound};
 use reference::calls::clock;
-use reference::histogram::{Bucket, Histogram, Level};
+use reference::histogram::{Bucket, Histogram};
 use reference::layout;
 use reference::protocol::BUFFER_WORDS;
 use reference::shape::Shape;
-use reference::soundness::{block_faults, sound_head};
 use reference::trace::days;
-use reference::words::{decode_block, decode_head};
+use reference::words::decode_block;
 
 #[test]
 fn equal_seeds_give_equal_draws() {
@@ -29,81 +28,70 @@ fn equal_seeds_give_equal_draws() {
     assert_ne!(drawn(1), drawn(2));
 }
 
-/// What is remarkable about a level.
-fn features(
-    shape: Shape,
-    half: &Histogram,
-    index: usize,
-    level: &Level,
-) -> impl Iterator<Item = &'static str> {
+/// A clock is set to what it is only where the whole book is sound.
+fn assert_sound(words: &[u32]) {
+    let now = words[layout::CLOCK];
+    assert_eq!(clock(&mut words.to_vec(), now), Ok(()));
+}
+
+/// What can be remarkable about a level, and whether it is.
+fn features(shape: Shape, half: &Histogram, index: usize) -> [(&'static str, bool); 10] {
+    let level = &half.levels[index];
     let (first, buckets) = (level.first, &level.buckets);
     let weights: u64 = buckets.iter().map(|b| b.weight).sum();
-    let (n, ticks) = (shape.n(), shape.interval_ticks());
-    let (is_full, is_whole) = (buckets.len() == n as usize, weights == half.total);
+    let (n, is_whole) = (u64::from(shape.n()), weights == half.total);
+    let is_full = buckets.len() as u64 == n;
     let is_heavy = |b: &Bucket| b.length == 1 && b.weight >= 2 << index;
-    let finer = index.checked_sub(1).map(|finer| half.levels[finer].first);
-    let all = [
+    let rises = index > 0 && first > half.levels[index - 1].first;
+    [
         ("evicted, weights below the total", !is_whole),
         ("evicted, weights the total", first != 0 && is_whole),
         ("full, nothing evicted", is_full && first == 0),
-        ("evicted to the end", first + u64::from(n) == ticks),
+        ("evicted to the end", first + n == shape.interval_ticks()),
         ("level 0 evicted", index == 0 && first != 0),
         ("a heavy tick", index > 0 && buckets.iter().any(is_heavy)),
         ("a single bucket", index > 0 && buckets.len() == 1),
-        (
-            "a finer level evicted less",
-            finer.is_some_and(|f| first > f),
-        ),
+        ("a finer level evicted less", rises),
         ("capacity reached", half.total == shape.capacity()),
         ("an empty half", half.total == 0),
-    ];
-    all.into_iter()
-        .filter_map(|(name, holds)| holds.then_some(name))
+    ]
 }
 
 #[test]
 fn built_books_are_sound_and_various() {
-    let mut random = Random::new(5);
+    let random = &mut Random::new(5);
     let mut seen = BTreeSet::new();
     for _ in 0..3000 {
-        let shape = shapes::draw(&mut random);
-        let words = sound::book(&mut random, shape);
-        assert_eq!(words.len(), shape.book_length());
-        let (found, clock) = sound_head(decode_head(&words)).expect("a sound head");
-        assert_eq!(found, shape);
-        let now = u64::from(clock);
-        for grade in 0..shape.g() {
-            let block = decode_block(shape, &words[shape.block(grade)]);
-            assert_eq!(block_faults(shape, &block), []);
-            let halves = block.map(|raw| raw.histogram());
-            for half in &halves {
-                for (index, level) in half.levels.iter().enumerate() {
-                    seen.extend(features(shape, half, index, level));
-                }
-            }
-            let last = halves[shape.parity(now)].levels[0].buckets.last();
-            if last.is_some_and(|b| b.offset > shape.offset(now)) {
-                seen.insert("a bucket ahead of the clock");
-            }
-            if now < shape.interval_ticks() && halves[1].total > 0 {
-                seen.insert("an odd interval before the first one began");
-            }
+        let shape = shapes::draw(random);
+        let words = sound::book(random, shape);
+        assert_eq!(words[layout::SHAPE], shape.numbers());
+        assert_sound(&words);
+        let now = u64::from(words[layout::CLOCK]);
+        let halves = decode_block(shape, &words[shape.block(0)]).map(|raw| raw.histogram());
+        for half in &halves {
+            let all = (0..shape.levels()).flat_map(|index| features(shape, half, index));
+            seen.extend(all.filter(|(_, holds)| *holds).map(|(name, _)| name));
+        }
+        let last = halves[shape.parity(now)].levels[0].buckets.last();
+        if last.is_some_and(|b| b.offset > shape.offset(now)) {
+            seen.insert("a bucket ahead of the clock");
+        }
+        if now < shape.interval_ticks() && halves[1].total > 0 {
+            seen.insert("an odd interval before the first one began");
         }
     }
     assert_eq!(seen.len(), 12, "{seen:?}");
 }
 
-/// A clock is set to what it is only where the whole book is sound.
 #[test]
 fn books_for_merges_are_sound_and_not_past_the_clock() {
     let random = &mut Random::new(3);
     for _ in 0..600 {
         let shape = shapes::draw_short(random, 600);
         let most = random.pick(&[0, 1, 40, Shape::CLOCK_MAX]);
-        let (_, mut words) = merge::book(random, shape, most);
-        let now = words[layout::CLOCK];
-        assert!(now <= most);
-        assert_eq!(clock(&mut words, now), Ok(()));
+        let (_, words) = merge::book(random, shape, most);
+        assert!(words[layout::CLOCK] <= most);
+        assert_sound(&words);
     }
 }
 
@@ -118,58 +106,35 @@ fn sound_traces_are_sound() {
     }
 }
 
+/// Where a make is refused, each of the four numbers is at times the only one outside its limits, and at
+/// times none of them is.
 #[test]
 fn makes_are_accepted_or_refused_as_asked() {
     let random = &mut Random::new(11);
     let medium = [12, 40, 18, 2];
-    let length = |numbers: Numbers| within(numbers).book_length();
+    let length = |numbers: Numbers| Makes::Length(within(numbers).book_length());
+    let is_shape = |[k, n, m, g]: Numbers| Shape::new(k, n, m, g).is_some();
     for (makes, start) in [
         (Makes::UpTo(BUFFER_WORDS), EXAMPLE),
         (Makes::UpTo(700), EXAMPLE),
-        (Makes::Length(length(EXAMPLE)), EXAMPLE),
-        (Makes::Length(length(medium)), medium),
+        (length(EXAMPLE), EXAMPLE),
+        (length(medium), medium),
         (Makes::Same, EXAMPLE),
     ] {
-        let mut current = within(start);
+        let (mut current, mut reasons) = (within(start), [0; 5]);
         for _ in 0..2_000 {
             let numbers = makes.refused(random, current);
             assert_eq!(makes.shape(current, numbers), None, "{numbers:?}");
+            reasons[4] += u32::from(is_shape(numbers));
+            for place in (0..4).filter(|_| !is_shape(numbers)) {
+                let mut mended = numbers;
+                mended[place] = EXAMPLE[place];
+                reasons[place] += u32::from(is_shape(mended));
+            }
             let numbers = makes.accepted(random, current);
             let shape = makes.shape(current, numbers);
             current = shape.unwrap_or_else(|| panic!("{makes:?}: {numbers:?}"));
         }
+        assert!(reasons.iter().all(|count| *count > 100), "{reasons:?}");
     }
-}
-
-/// In a buffer a make is refused for its length or for its shape, and each of the four numbers is
-/// at times the only one outside its limits.
-#[test]
-fn makes_are_refused_for_every_reason() {
-    let random = &mut Random::new(12);
-    let is_shape = |[k, n, m, g]: Numbers| Shape::new(k, n, m, g).is_some();
-    let mut reasons = [0; 5];
-    for _ in 0..2_000 {
-        let numbers = Makes::UpTo(BUFFER_WORDS).refused(random, within(EXAMPLE));
-        let is_long = is_shape(numbers);
-        reasons[4] += u32::from(is_long);
-        for (place, right) in EXAMPLE.into_iter().enumerate() {
-            let mut mended = numbers;
-            mended[place] = right;
-            reasons[place] += u32::from(!is_long && is_shape(mended));
-        }
-    }
-    assert!(reasons.iter().all(|count| *count > 100), "{reasons:?}");
-}
-
-#[test]
-fn shapes_of_a_length() {
-    for numbers in [EXAMPLE, SITE] {
-        let length = within(numbers).book_length();
-        let found = of_length(numbers[0], length);
-        assert!(found.contains(&numbers));
-        assert!(found
-            .iter()
-            .all(|same| within(*same).book_length() == length));
-    }
-    assert_eq!(of_length(2, 91), Vec::<Numbers>::new());
 }

@@ -2,8 +2,6 @@
 //! no finer level was used.
 
 use crate::calls::{open_query, sum_from};
-use crate::histogram::Histogram;
-use crate::shape::Shape;
 use crate::window::opening;
 
 /// What stands for the first kept offset, document 01's F, of the next finer level.
@@ -24,7 +22,8 @@ pub struct Ground {
     pub sum: u64,
     /// The level that was used, in the interval in which the window opens; 0 for window 0.
     pub level: u32,
-    /// The sum and the ledger's differ by at most so many decilitres, on a book grown from a make.
+    /// The sum and the ledger's differ by at most so many decilitres, on a book grown from a make: none from
+    /// level 0, which is exact, else 2^level times k + 1.
     pub limit: u64,
     /// Why no finer level was used.
     pub finer: Finer,
@@ -49,28 +48,18 @@ pub fn ground(words: &[u32], grade: u32, window: u32) -> Result<Ground, u32> {
     let histogram = &block[shape.parity(opening)];
     let serving = histogram.serving_level(shape.offset(opening));
     let level = serving.expect("a sound histogram serves every opening");
+    let (limit, finer) = match level.checked_sub(1) {
+        None => (0, Finer::LevelZero),
+        Some(finer) => {
+            let first = u32::try_from(histogram.levels[finer].first);
+            let first = first.expect("an offset fits one word");
+            (u64::from(shape.k() + 1) << level, Finer::First(first))
+        }
+    };
     Ok(Ground {
         sum: sum_from(shape, clock, opening, &block),
         level: level as u32,
-        limit: limit(shape, level),
-        finer: finer(histogram, level),
+        limit,
+        finer,
     })
-}
-
-/// 0 on level 0, which is exact, else 2^level times k + 1.
-fn limit(shape: Shape, level: usize) -> u64 {
-    match level {
-        0 => 0,
-        _ => u64::from(shape.k() + 1) << level,
-    }
-}
-
-fn finer(histogram: &Histogram, level: usize) -> Finer {
-    match level.checked_sub(1) {
-        None => Finer::LevelZero,
-        Some(finer) => {
-            let first = histogram.levels[finer].first;
-            Finer::First(u32::try_from(first).expect("an offset fits one word"))
-        }
-    }
 }

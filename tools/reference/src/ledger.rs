@@ -56,26 +56,24 @@ impl Ledger {
 
     /// One call that borrows so many words.
     pub fn perform(&mut self, call: Call, borrowed: usize) -> Reply {
+        let shape = match call {
+            Call::Make { k, n, m, g } => Shape::new(k, n, m, g).ok_or(refusal::SHAPE)?,
+            _ => self.shape,
+        };
+        // No shape asks for so few words that a missing head would need its own test.
+        when(borrowed != shape.book_length(), refusal::LENGTH)?;
         match call {
-            Call::Make { k, n, m, g } => {
-                let shape = Shape::new(k, n, m, g).ok_or(refusal::SHAPE)?;
-                check_length(shape, borrowed)?;
-                *self = Ledger::new(shape);
-                Ok(Answer::Done)
-            }
+            Call::Make { .. } => *self = Ledger::new(shape),
             Call::Clock { clock } => {
-                check_length(self.shape, borrowed)?;
                 when(clock > Shape::CLOCK_MAX, refusal::CLOCK_LIMIT)?;
                 when(clock < self.clock, refusal::CLOCK_BACK)?;
                 self.clock = clock;
-                Ok(Answer::Done)
             }
             Call::Delivery {
                 grade,
                 stamp,
                 volume,
             } => {
-                check_length(self.shape, borrowed)?;
                 let entry = Entry {
                     grade,
                     stamp,
@@ -83,16 +81,15 @@ impl Ledger {
                 };
                 self.check_delivery(entry)?;
                 self.entries.push(entry);
-                Ok(Answer::Done)
             }
             Call::Query { grade, window } => {
-                check_length(self.shape, borrowed)?;
-                when(grade >= self.shape.g(), refusal::GRADE)?;
-                let too_long = u64::from(window) > self.shape.interval_ticks();
+                when(grade >= shape.g(), refusal::GRADE)?;
+                let too_long = u64::from(window) > shape.interval_ticks();
                 when(too_long, refusal::WINDOW)?;
-                Ok(Answer::Sum(self.window_sum(grade, window)))
+                return Ok(Answer::Sum(self.window_sum(grade, window)));
             }
         }
+        Ok(Answer::Done)
     }
 
     fn check_delivery(&self, entry: Entry) -> Result<(), u32> {
@@ -179,9 +176,4 @@ impl Ledger {
         let volume = |e: &Entry| if counted(e) { u64::from(e.volume) } else { 0 };
         self.entries.iter().map(volume).sum()
     }
-}
-
-fn check_length(shape: Shape, borrowed: usize) -> Result<(), u32> {
-    // No shape asks for so few words that a missing head would need its own test.
-    when(borrowed != shape.book_length(), refusal::LENGTH)
 }

@@ -62,11 +62,8 @@ pub fn merge(named: [Named; 2], output: &mut [u32]) -> Result<(), u32> {
     }
     // Where clocks are equal, the order stays.
     all.sort_by_key(|(clock, _)| *clock);
-    let words = all.into_iter().flat_map(|(_, record)| record);
-    output
-        .iter_mut()
-        .zip(words)
-        .for_each(|(to, word)| *to = *word);
+    let records: Vec<&[u32]> = all.into_iter().map(|(_, record)| record).collect();
+    output.copy_from_slice(&records.concat());
     Ok(())
 }
 

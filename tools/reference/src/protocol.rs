@@ -17,15 +17,17 @@ pub struct Bench {
     shape: Option<Shape>,
 }
 
-impl Bench {
-    /// A zero buffer, before any make.
-    pub fn new() -> Bench {
+/// A zero buffer, before any make.
+impl Default for Bench {
+    fn default() -> Bench {
         Bench {
             buffer: vec![0; BUFFER_WORDS],
             shape: None,
         }
     }
+}
 
+impl Bench {
     /// One call on as many words as it is given.
     pub fn perform(&mut self, call: Call) -> Reply {
         let asked = match call {
@@ -49,15 +51,9 @@ impl Bench {
     }
 }
 
-impl Default for Bench {
-    fn default() -> Bench {
-        Bench::new()
-    }
-}
-
 /// Answers an input line by line, each answer as soon as its line has ended.
 pub fn run(mut input: impl BufRead, mut output: impl Write) -> io::Result<()> {
-    let mut bench = Bench::new();
+    let mut bench = Bench::default();
     let mut line = Vec::new();
     while input.read_until(b'\n', &mut line)? > 0 {
         let content = line.strip_suffix(b"\n").unwrap_or(&line);

@@ -14,177 +14,108 @@ pub use crate::layout::{
 /// The words of one record.
 pub type Record = [u32; RECORD_WORDS];
 
-/// Why words are no trace, with the first word at which this shows.
+/// Why words are no trace.
 #[derive(Clone, Copy, Debug, PartialEq, Eq)]
-pub enum Fault {
+pub struct Fault {
+    /// The first word at which this shows.
+    pub word: usize,
+    /// The day that is at fault, where it is one.
+    pub day: Option<usize>,
+    /// What is wrong.
+    pub why: Why,
+}
+
+/// What is wrong with a trace or with a day of it.
+#[derive(Clone, Copy, Debug, PartialEq, Eq)]
+pub enum Why {
     /// There are no words.
     Empty,
     /// The count of days is too high.
     Count(u32),
-    /// The trace ends within the pairs, which need so many words with the count.
-    Pairs(usize),
-    /// A day does not start where the pairs or the day before end.
-    Offset {
-        /// The day.
-        day: usize,
-        /// Where its pair says it starts.
-        found: u32,
-        /// Where it has to start.
-        expected: usize,
-    },
-    /// A day is not whole records.
-    Length {
-        /// The day.
-        day: usize,
-        /// Its words.
-        found: u32,
-    },
-    /// A day ends after the trace does.
-    End {
-        /// The day.
-        day: usize,
-        /// Where it would end.
-        found: u64,
-    },
+    /// The trace ends within the pairs, which end at the fault's word.
+    Pairs,
     /// A word follows the last day.
-    Follows(usize),
-    /// A record of no known kind.
-    Kind {
-        /// The record's day.
-        day: usize,
-        /// The word of the kind.
-        word: usize,
-        /// The kind.
-        found: u32,
-    },
-    /// A word of a record is not zero, although its call has no number there.
-    Rest {
-        /// The record's day.
-        day: usize,
-        /// The word.
-        word: usize,
-        /// What stands there.
-        found: u32,
-    },
-}
-
-impl Fault {
-    /// The day that is at fault, where it is one.
-    pub fn day(self) -> Option<usize> {
-        match self {
-            Fault::Empty | Fault::Count(_) | Fault::Pairs(_) | Fault::Follows(_) => None,
-            Fault::Offset { day, .. }
-            | Fault::Length { day, .. }
-            | Fault::End { day, .. }
-            | Fault::Kind { day, .. }
-            | Fault::Rest { day, .. } => Some(day),
-        }
-    }
+    Follows,
+    /// The day starts at the first of these, and the pairs or the day before end at the second.
+    Offset(u32, usize),
+    /// The day has so many words, which are no whole records.
+    Length(u32),
+    /// The day ends here, after the trace does.
+    End(u64),
+    /// A record of this kind, which is none.
+    Kind(u32),
+    /// This stands in a record where its call has no number.
+    Rest(u32),
 }
 
 impl Display for Fault {
     fn fmt(&self, f: &mut Formatter<'_>) -> fmt::Result {
-        match *self {
-            Fault::Empty => write!(f, "there is no word, not even a count of days"),
-            Fault::Count(found) => write!(f, "word 0: {found} days, at most {DAYS_MAX}"),
-            Fault::Pairs(needed) => write!(f, "the pairs end at word {needed}, after the trace"),
-            Fault::Offset {
-                day,
-                found,
-                expected,
-            } => {
-                let word = pair(day).start;
-                write!(
-                    f,
-                    "word {word}: day {day} starts at {found}, not {expected}"
-                )
-            }
-            Fault::Length { day, found } => {
-                let word = pair(day).end - 1;
-                write!(
-                    f,
-                    "word {word}: day {day} has {found} words, no whole records"
-                )
-            }
-            Fault::End { day, found } => {
-                let word = pair(day).end - 1;
-                write!(f, "word {word}: day {day} ends at {found}, after the trace")
-            }
-            Fault::Follows(word) => write!(f, "word {word}: it follows the last day"),
-            Fault::Kind { day, word, found } => {
-                write!(f, "word {word}: day {day} has a record of kind {found}")
-            }
-            Fault::Rest { day, word, found } => {
-                write!(
-                    f,
-                    "word {word}: day {day} has a record with {found} in place of 0"
-                )
-            }
-        }
+        let day = self.day.map_or(String::new(), |day| format!("day {day} "));
+        let told = match self.why {
+            Why::Empty => return write!(f, "there is no word, not even a count of days"),
+            Why::Pairs => return write!(f, "the pairs end at word {}, after the trace", self.word),
+            Why::Count(found) => format!("{found} days, at most {DAYS_MAX}"),
+            Why::Follows => "it follows the last day".to_string(),
+            Why::Offset(found, expected) => format!("starts at {found}, not {expected}"),
+            Why::Length(found) => format!("has {found} words, no whole records"),
+            Why::End(found) => format!("ends at {found}, after the trace"),
+            Why::Kind(found) => format!("has a record of kind {found}"),
+            Why::Rest(found) => format!("has a record with {found} in place of 0"),
+        };
+        write!(f, "word {}: {day}{told}", self.word)
     }
 }
 
 /// The words of each day, if the trace keeps its layout and every record of every day reads.
 pub fn days(trace: &[u32]) -> Result<Vec<Range<usize>>, Fault> {
     let days = parts(trace)?;
-    let fault = record_faults(trace, &days).next();
-    fault.map_or(Ok(days), Err)
+    for (number, part) in days.iter().enumerate() {
+        for start in part.clone().step_by(RECORD_WORDS) {
+            if let Err(place) = call(&trace[start..start + RECORD_WORDS]) {
+                let (word, day) = (start + place, Some(number));
+                let why = if place == 0 { Why::Kind } else { Why::Rest };
+                let why = why(trace[word]);
+                return Err(Fault { word, day, why });
+            }
+        }
+    }
+    Ok(days)
 }
 
 /// The words of each day, whatever their records are.
 pub fn parts(trace: &[u32]) -> Result<Vec<Range<usize>>, Fault> {
-    let count = *trace.first().ok_or(Fault::Empty)?;
+    let fault = |word, day, why| Err(Fault { word, day, why });
+    let Some(&count) = trace.first() else {
+        return fault(0, None, Why::Empty);
+    };
     if count > DAYS_MAX {
-        return Err(Fault::Count(count));
+        return fault(0, None, Why::Count(count));
     }
     let mut start = pairs_end(count as usize);
     if trace.len() < start {
-        return Err(Fault::Pairs(start));
+        return fault(start, None, Why::Pairs);
     }
     let mut days = Vec::new();
     for day in 0..count as usize {
-        let [offset, length] = [0, 1].map(|word| trace[pair(day)][word]);
+        let place = pair(day).start;
+        let (offset, length) = (trace[place], trace[place + 1]);
         let end = start as u64 + u64::from(length);
         if u64::from(offset) != start as u64 {
-            return Err(Fault::Offset {
-                day,
-                found: offset,
-                expected: start,
-            });
+            return fault(place, Some(day), Why::Offset(offset, start));
         }
         if !(length as usize).is_multiple_of(RECORD_WORDS) {
-            let found = length;
-            return Err(Fault::Length { day, found });
+            return fault(place + 1, Some(day), Why::Length(length));
         }
         if end > trace.len() as u64 {
-            return Err(Fault::End { day, found: end });
+            return fault(place + 1, Some(day), Why::End(end));
         }
         days.push(start..end as usize);
         start = end as usize;
     }
     if start < trace.len() {
-        return Err(Fault::Follows(start));
+        return fault(start, None, Why::Follows);
     }
     Ok(days)
-}
-
-/// What is wrong with the records of these days, in their order.
-pub fn record_faults<'a>(
-    trace: &'a [u32],
-    days: &'a [Range<usize>],
-) -> impl Iterator<Item = Fault> + 'a {
-    let places = days.iter().enumerate().flat_map(|(day, part)| {
-        let starts = part.clone().step_by(RECORD_WORDS);
-        starts.map(move |start| (day, start))
-    });
-    places.filter_map(|(day, start)| {
-        let place = call(&trace[start..start + RECORD_WORDS]).err()?;
-        let (word, found) = (start + place, trace[start + place]);
-        Some(match place {
-            0 => Fault::Kind { day, word, found },
-            _ => Fault::Rest { day, word, found },
-        })
-    })
 }
 
 /// The call of a record, or the place of the word in it that makes it none.

@@ -2,7 +2,7 @@
 
 mod common;
 
-use common::{assert_sums, feed, made};
+use common::made;
 use draw::shapes::{within, Numbers};
 use reference::calls::{clock, deliver, query};
 use reference::histogram::Histogram;
@@ -94,22 +94,4 @@ fn all_grades_are_inspected_before_any_is_emptied() {
             }
         }
     }
-}
-
-#[test]
-fn window_into_the_interval_before_adds_the_current_total() {
-    // Stamps 1 to 5 carry 2 each; stamps 4 and 5 are in the current interval, 1 in no window.
-    assert_sums(&book(), &[(0, 0), (1, 2), (2, 4), (3, 6), (4, 8)]);
-    assert_sums(&moved(7), &[(0, 0), (1, 0), (2, 0), (3, 2), (4, 4)]);
-}
-
-#[test]
-fn window_longer_than_the_clock_opens_at_0() {
-    let mut words = made(NUMBERS);
-    assert_sums(&words, &[(0, 0), (1, 0), (2, 0), (3, 0), (4, 0)]);
-    feed(&mut words, 0, &[(0, 5)]);
-    assert_sums(&words, &[(0, 0), (1, 5), (2, 5), (4, 5)]);
-    feed(&mut words, 2, &[(2, 1)]);
-    // Window 2 opens at 1, window 3 at 0 and window 4 no earlier.
-    assert_sums(&words, &[(0, 0), (1, 1), (2, 1), (3, 6), (4, 6)]);
 }

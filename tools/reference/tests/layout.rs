@@ -3,7 +3,7 @@
 use draw::random::Random;
 use draw::{shapes, sound};
 use reference::histogram::Histogram;
-use reference::layout::{Layout, BOOK, HEAD_WORDS};
+use reference::layout::{Layout, HEAD_WORDS};
 use reference::shape::Shape;
 use reference::soundness::{block_faults, Fault};
 use reference::words::{decode_head, RawHead, RawHistogram};
@@ -42,7 +42,6 @@ fn heavy(weight: u64) -> [Histogram; 2] {
 #[test]
 fn lengths_and_places() {
     let shape = example();
-    assert_eq!(BOOK.book_words(shape), 90);
     for (layout, slot, total, level, block, answer) in [
         (NARROW, 3, 1..2, 18..26, 82, 2),
         (WIDE, 4, 2..4, 24..34, 104, 3),

@@ -132,16 +132,6 @@ fn make_may_need_all_of_the_buffer_and_no_more() {
 }
 
 #[test]
-fn make_outside_the_limits_is_refused_1() {
-    let lines = "m 0 0 0 0|m 21 2 4 1|m 2 1025 24 8|m 2 2 25 1|m 2 2 4 0|m 2 2 4 9\
-                 |m 4294967295 4294967295 4294967295 4294967295";
-    for line in lines.split('|') {
-        assert_eq!(answers(&[line]), ["refused 1"], "{line}");
-        assert_eq!(answers(&["m 2 2 4 1", line])[1], "refused 1", "{line}");
-    }
-}
-
-#[test]
 fn refused_make_keeps_the_book() {
     assert_answers(
         "m 2 2 4 1 > ok; c 3 > ok; d 0 3 2 > ok; m 20 441 24 1 > refused 2; q 0 1 > = 2; \
@@ -191,20 +181,17 @@ fn program(input: Vec<u8>) -> String {
 }
 
 #[test]
-fn program_reads_and_writes_the_standard_streams() {
-    assert_eq!(program(vec![]), "");
-    let output = program(b"m 2 2 4 1\nc 3\nd 0 3 2\nq 0 1".to_vec());
-    assert_eq!(output, "ok\nok\nok\n= 2\n");
-}
-
-#[test]
 fn lines_cross_the_chunks_of_the_program() {
+    assert_eq!(program(vec![]), "");
     let mut input = b"m 2 2 4 1\n".to_vec();
     let mut expected = "ok\n".to_string();
     for clock in 0..20_000 {
         input.extend(format!("c {clock}\nq 0 1\n\n").bytes());
         expected.push_str("ok\n= 0\nunread\n");
     }
+    // The last line has no newline.
+    input.extend(b"d 0 19999 2\nq 0 1");
+    expected.push_str("ok\n= 2\n");
     assert_eq!(program(input), expected);
 }
 
@@ -217,7 +204,7 @@ fn every_line_is_answered_before_the_next() {
         let mut lines = BufReader::new(stdout).lines();
         lines.try_for_each(|line| sender.send(line.unwrap()))
     });
-    let (mut bench, mut ledger) = (Bench::new(), Ledger::new(within(EXAMPLE)));
+    let (mut bench, mut ledger) = (Bench::default(), Ledger::new(within(EXAMPLE)));
     let mut source = Source::new(1, Makes::Same);
     for _ in 0..2_000 {
         let call = source.call(&ledger);

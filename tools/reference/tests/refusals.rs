@@ -94,27 +94,15 @@ fn order_for_deliveries() {
     assert_refused(book(), delivery(1, 8, 1), 12);
 }
 
+/// Window 0 is refused as the others are.
 #[test]
 fn order_for_queries() {
     let query = |grade, window| Call::Query { grade, window };
-    assert_opening(query(2, 5));
-    assert_refused(unsound(), query(2, 5), 3);
-    assert_refused(unsound(), query(1, 5), 5);
-    assert_refused(unsound(), query(1, 4), 11);
-}
-
-#[test]
-fn window_0_answers_0_after_every_refusal() {
-    let query = |grade| Call::Query { grade, window: 0 };
-    assert_opening(query(0));
-    assert_opening(query(2));
-    assert_refused(unsound(), query(2), 3);
-    assert_refused(book(), query(2), 3);
-    assert_refused(unsound(), query(1), 11);
-    for grade in [0, 1] {
-        let mut words = book();
-        assert_eq!(perform(&mut words, query(grade)), Ok(Answer::Sum(0)));
-        assert_eq!(words, book());
+    for (grade, window) in [(2, 5), (2, 0), (0, 0)] {
+        assert_opening(query(grade, window));
+    }
+    for (grade, window, number) in [(2, 5, 3), (2, 0, 3), (1, 5, 5), (1, 4, 11), (1, 0, 11)] {
+        assert_refused(unsound(), query(grade, window), number);
     }
 }
 

@@ -1,66 +1,72 @@
 //! The layout of a trace: what is one, and where words that are none break it.
 
 use reference::calls::Call;
-use reference::trace::{call, days, lay_out, parts, record, record_faults, Fault, Record};
+use reference::trace::{call, days, lay_out, record, Fault, Record, Why};
 
 const CLOCK: Record = [1, 3, 0, 0];
 const DELIVERY: Record = [2, 0, 3, 1];
 const QUERY: Record = [3, 0, 2, 0];
 
-/// A day of these records.
-fn day(records: &[Record]) -> Vec<u32> {
-    records.concat()
-}
-
 /// Days of 2, 0 and 1 records.
 fn three() -> Vec<u32> {
-    lay_out(&[day(&[CLOCK, DELIVERY]), day(&[]), day(&[QUERY])])
+    lay_out(&[[CLOCK, DELIVERY].concat(), vec![], QUERY.to_vec()])
 }
 
-/// What is wrong with the three days after words were set.
-fn fault(set: &[(usize, u32)]) -> Option<Fault> {
+/// The three days after words were set.
+fn found(set: &[(usize, u32)]) -> Result<usize, Fault> {
     let mut trace = three();
     for (word, value) in set {
         trace[*word] = *value;
     }
-    days(&trace).err()
+    count(&trace)
+}
+
+fn count(trace: &[u32]) -> Result<usize, Fault> {
+    days(trace).map(|days| days.len())
+}
+
+fn whole(word: usize, why: Why) -> Result<usize, Fault> {
+    let day = None;
+    Err(Fault { word, day, why })
+}
+
+fn of_day(day: usize, word: usize, why: Why) -> Result<usize, Fault> {
+    let day = Some(day);
+    Err(Fault { word, day, why })
 }
 
 #[test]
 fn days_stand_one_after_another() {
     let trace = three();
-    let head = [3, 7, 8, 15, 0, 15, 4];
-    assert_eq!(trace[..7], head);
+    assert_eq!(trace[..7], [3, 7, 8, 15, 0, 15, 4]);
     assert_eq!(trace[7..], [CLOCK, DELIVERY, QUERY].concat());
     assert_eq!(days(&trace), Ok(vec![7..15, 15..15, 15..19]));
-    assert_eq!(fault(&[]), None);
 }
 
 #[test]
 fn fewest_and_most_days() {
-    assert_eq!(days(&[0]), Ok(vec![]));
-    for count in [1, 2, 63, 64] {
-        let empty = lay_out(&vec![day(&[]); count]);
-        assert_eq!(days(&empty).map(|days| days.len()), Ok(count));
-        let full = lay_out(&vec![day(&[QUERY]); count]);
-        assert_eq!(days(&full).map(|days| days.len()), Ok(count));
+    assert_eq!(count(&[0]), Ok(0));
+    for day in [vec![], QUERY.to_vec()] {
+        for number in [1, 2, 63, 64] {
+            assert_eq!(count(&lay_out(&vec![day.clone(); number])), Ok(number));
+        }
+        let more = lay_out(&vec![day; 65]);
+        assert_eq!(count(&more), whole(0, Why::Count(65)));
     }
-    let more = lay_out(&vec![day(&[QUERY]); 65]);
-    assert_eq!(days(&more), Err(Fault::Count(65)));
 }
 
 #[test]
 fn too_few_words() {
-    assert_eq!(days(&[]), Err(Fault::Empty));
-    assert_eq!(days(&[1]), Err(Fault::Pairs(3)));
-    assert_eq!(days(&[1, 3]), Err(Fault::Pairs(3)));
-    assert_eq!(days(&[64; 128]), Err(Fault::Pairs(129)));
-    assert_eq!(days(&[u32::MAX]), Err(Fault::Count(u32::MAX)));
+    assert_eq!(count(&[]), whole(0, Why::Empty));
+    assert_eq!(count(&[1]), whole(3, Why::Pairs));
+    assert_eq!(count(&[1, 3]), whole(3, Why::Pairs));
+    assert_eq!(count(&[64; 128]), whole(129, Why::Pairs));
+    assert_eq!(count(&[u32::MAX]), whole(0, Why::Count(u32::MAX)));
     let trace = three();
     for length in 7..trace.len() {
-        let (day, found) = if length < 15 { (0, 15) } else { (2, 19) };
-        let expected = Err(Fault::End { day, found });
-        assert_eq!(days(&trace[..length]), expected, "{length}");
+        let (day, end) = if length < 15 { (0, 15) } else { (2, 19) };
+        let expected = of_day(day, 2 + 2 * day, Why::End(end));
+        assert_eq!(count(&trace[..length]), expected, "{length}");
     }
 }
 
@@ -69,38 +75,33 @@ fn words_too_many() {
     for more in 1..9 {
         let mut trace = three();
         trace.resize(19 + more, 0);
-        assert_eq!(days(&trace), Err(Fault::Follows(19)));
+        assert_eq!(count(&trace), whole(19, Why::Follows));
     }
-    assert_eq!(days(&[0, 0]), Err(Fault::Follows(1)));
+    assert_eq!(count(&[0, 0]), whole(1, Why::Follows));
 }
 
 #[test]
 fn offsets_elsewhere() {
-    for found in [0, 6, 8, 11, 15, u32::MAX] {
-        let (day, expected) = (0, 7);
-        let offset = Fault::Offset {
-            day,
-            found,
-            expected,
-        };
-        assert_eq!(fault(&[(1, found)]), Some(offset));
+    for offset in [0, 6, 8, 11, 15, u32::MAX] {
+        let expected = of_day(0, 1, Why::Offset(offset, 7));
+        assert_eq!(found(&[(1, offset)]), expected);
     }
     // Two days exchanged, and one that overlaps the first.
-    let exchanged = fault(&[(1, 15), (2, 4), (5, 7), (6, 8)]);
-    assert_eq!(exchanged.and_then(Fault::day), Some(0));
-    let overlapping = fault(&[(5, 11), (6, 8)]);
-    assert_eq!(overlapping.and_then(Fault::day), Some(2));
+    let exchanged = found(&[(1, 15), (2, 4), (5, 7), (6, 8)]);
+    assert_eq!(exchanged, of_day(0, 1, Why::Offset(15, 7)));
+    let overlapping = found(&[(5, 11), (6, 8)]);
+    assert_eq!(overlapping, of_day(2, 5, Why::Offset(11, 15)));
 }
 
 #[test]
 fn lengths_that_do_not_fit() {
-    for found in [1, 2, 3, 5, 7, 9, u32::MAX] {
-        let length = Fault::Length { day: 0, found };
-        assert_eq!(fault(&[(2, found)]), Some(length));
+    for length in [1, 2, 3, 5, 7, 9, u32::MAX] {
+        let expected = of_day(0, 2, Why::Length(length));
+        assert_eq!(found(&[(2, length)]), expected);
     }
     let most = u32::MAX - 3;
-    let found = 7 + u64::from(most);
-    assert_eq!(fault(&[(2, most)]), Some(Fault::End { day: 0, found }));
+    let end = Why::End(7 + u64::from(most));
+    assert_eq!(found(&[(2, most)]), of_day(0, 2, end));
 }
 
 /// Lengths that come out right together modulo 2^32.
@@ -110,42 +111,30 @@ fn sums_do_not_wrap() {
         let first = 8u32.wrapping_add(more);
         let next = 15u32.wrapping_add(more);
         let last = 4u32.wrapping_sub(more);
-        let wrapped = fault(&[(2, first), (3, next), (5, next), (6, last)]);
-        let day = wrapped.and_then(Fault::day);
+        let wrapped = found(&[(2, first), (3, next), (5, next), (6, last)]);
+        let day = wrapped.unwrap_err().day;
         assert!(matches!(day, Some(0 | 1)), "{more}: {wrapped:?}");
     }
 }
 
 #[test]
 fn kinds_and_rests() {
-    for found in [0, 4, 257, 65_537, (1 << 31) + 1, u32::MAX] {
-        let (day, word) = (0, 11);
-        let kind = Fault::Kind { day, word, found };
-        assert_eq!(fault(&[(word, found)]), Some(kind));
+    for kind in [0, 4, 257, 65_537, (1 << 31) + 1, u32::MAX] {
+        assert_eq!(found(&[(11, kind)]), of_day(0, 11, Why::Kind(kind)));
     }
     for (day, word) in [(0, 9), (0, 10), (2, 18)] {
-        for found in [1, 1 << 31, u32::MAX] {
-            let rest = Fault::Rest { day, word, found };
-            assert_eq!(fault(&[(word, found)]), Some(rest));
+        for rest in [1, 1 << 31, u32::MAX] {
+            let expected = of_day(day, word, Why::Rest(rest));
+            assert_eq!(found(&[(word, rest)]), expected);
         }
     }
     // Every other word of a record is a number of its call, and may be anything.
     for word in [8, 12, 13, 14, 16, 17] {
-        assert_eq!(fault(&[(word, u32::MAX)]), None, "{word}");
+        assert_eq!(found(&[(word, u32::MAX)]), Ok(3), "{word}");
     }
-}
-
-#[test]
-fn every_record_is_looked_at() {
-    let mut trace = three();
-    trace[10] = 1;
-    trace[11] = 9;
-    trace[18] = 1;
-    let parts = parts(&trace).unwrap();
-    let faults: Vec<_> = record_faults(&trace, &parts).collect();
-    let places = faults.iter().map(|fault| fault.day()).collect::<Vec<_>>();
-    assert_eq!(places, [Some(0), Some(0), Some(2)]);
-    assert_eq!(days(&trace), Err(faults[0]));
+    // The first record that does not read is told.
+    let first = found(&[(18, 1), (11, 9), (10, 1)]);
+    assert_eq!(first, of_day(0, 10, Why::Rest(1)));
 }
 
 #[test]
@@ -173,13 +162,14 @@ fn faults_in_words() {
         ((7, 4), "word 7: day 0 has a record of kind 4"),
         ((10, 5), "word 10: day 0 has a record with 5 in place of 0"),
     ];
+    for (set, text) in of_days {
+        assert_eq!(found(&[set]).unwrap_err().to_string(), text);
+    }
     let of_words: [(&[u32], &str); 2] = [
         (&[], "there is no word, not even a count of days"),
         (&[2, 5], "the pairs end at word 5, after the trace"),
     ];
-    let of_days = of_days.map(|(set, text)| (fault(&[set]), text));
-    let of_words = of_words.map(|(trace, text)| (days(trace).err(), text));
-    for (fault, text) in of_days.into_iter().chain(of_words) {
-        assert_eq!(fault.map(|fault| fault.to_string()).as_deref(), Some(text));
+    for (trace, text) in of_words {
+        assert_eq!(days(trace).unwrap_err().to_string(), text);
     }
 }

@@ -174,15 +174,18 @@ fn delivery_on_the_seam_is_counted_once() {
     }
 }
 
-/// At an interval's last tick the longest window is that interval; at its other ticks it opens in the
-/// one before, or at 0.
+/// Every window of a book from its make on, before, on and after the edges of intervals. At an interval's last
+/// tick the longest window is that interval; at its other ticks it opens in the one before, or at 0.
 #[test]
-fn longest_window_as_the_clock_passes_the_edges() {
+fn windows_as_the_clock_passes_the_edges() {
     let mut words = made([2, 4, 6, 1]);
+    assert_sums(&words, &[(0, 0), (1, 0), (2, 0), (3, 0), (4, 0)]);
     for now in 0..=8 {
         feed(&mut words, now, &[(now, now + 1)]);
-        let stamps = now.saturating_sub(3)..=now;
-        let sum = stamps.map(|stamp| u64::from(stamp) + 1).sum();
-        assert_sums(&words, &[(4, sum), (0, 0), (1, u64::from(now) + 1)]);
+        for window in 0..=4 {
+            let stamps = (now + 1).saturating_sub(window)..=now;
+            let sum = stamps.map(|stamp| u64::from(stamp) + 1).sum();
+            assert_sums(&words, &[(window, sum)]);
+        }
     }
 }

@@ -8,13 +8,10 @@ use super::Caller;
 impl Caller<'_> {
     /// A question.
     pub fn question(&mut self) -> Call {
-        let (grade, window) = self.grade_and_window();
-        Call::Query { grade, window }
-    }
-
-    /// The numbers of a question.
-    pub(crate) fn grade_and_window(&mut self) -> (u32, u32) {
-        (self.grade(), self.window())
+        Call::Query {
+            grade: self.grade(),
+            window: self.window(),
+        }
     }
 
     /// Any window, often one that opens where something stands or a tick beside it.

@@ -5,10 +5,10 @@ use std::cmp::Ordering;
 
 use reference::refusal;
 use reference::replay::{find_day, ANSWER_WORDS};
-use reference::trace::{days, pair, pairs_end, Fault, CLOCK, DAYS_MAX, RECORD_WORDS};
+use reference::trace::{days, lay_out, pair, pairs_end, Fault, Why, CLOCK, DAYS_MAX, RECORD_WORDS};
 
 use super::records;
-use crate::tally::{names, that_hold};
+use crate::tally::{first_that_holds, names, that_hold, Cases};
 
 /// Faults of a trace as a whole.
 const WHOLE: [&str; 5] = [
@@ -36,34 +36,13 @@ const TWICE: [&str; 3] = [
     "no trace, no room",
     "no such day, no room",
 ];
-const NO_DAY: [&str; 4] = [
-    "no day at all",
-    "day = count",
-    "day = count + 1",
-    "a day far beyond",
-];
-/// Which day is found.
-const WHICH: [&str; 4] = [
-    "the first day",
-    "a day between",
-    "the last day",
-    "a day after an empty one",
-];
-const ROOMS: [&str; 9] = [
-    "empty day, no room",
-    "empty day, room",
-    "no room",
-    "a word short",
-    "a word for each record",
-    "words short",
-    "as many words as needed",
-    "a word more",
-    "more words",
-];
 
 /// Every kind that there is.
 pub fn all() -> Vec<String> {
-    let mut all = names(&[&WHOLE, &TWICE, &NO_DAY, &WHICH, &ROOMS]);
+    let of_found = which(&lay_out(&[[]]), 0).map(|(name, _)| name);
+    let of_missing = missing(0, 0).map(|(name, _)| name);
+    let of_rooms = rooms(0, 0).map(|(name, _)| name);
+    let mut all = names(&[&WHOLE, &TWICE, &of_missing, &of_found, &of_rooms]);
     for fault in OF_A_DAY {
         all.extend(PLACES.map(|place| format!("{fault} in {place}")));
     }
@@ -73,8 +52,14 @@ pub fn all() -> Vec<String> {
 /// The kinds of a replay of this day with so many answer words.
 pub fn kinds(trace: &[u32], day: u32, room: usize) -> Vec<String> {
     match find_day(trace, day) {
-        Ok(part) => found(trace, day, part.len() / RECORD_WORDS, room),
-        Err(refusal::DAY) => no_day(trace, day, room),
+        Ok(part) => {
+            let room = first_that_holds(&rooms(part.len() / RECORD_WORDS, room));
+            that_hold(which(trace, day).into_iter().chain([room]))
+        }
+        Err(refusal::DAY) => {
+            let day_is = first_that_holds(&missing(trace[0], day));
+            that_hold([day_is, (TWICE[2], lacks_room(trace, day, room))])
+        }
         Err(_) => broken(trace, day, room),
     }
 }
@@ -82,12 +67,12 @@ pub fn kinds(trace: &[u32], day: u32, room: usize) -> Vec<String> {
 fn broken(trace: &[u32], day: u32, room: usize) -> Vec<String> {
     let fault = days(trace).expect_err("no trace");
     let name = fault_name(trace, fault);
-    let mut kinds = vec![match fault.day().map(|at| at.cmp(&(day as usize))) {
-        None => name.to_string(),
-        Some(Ordering::Equal) => format!("{name} in {}", PLACES[0]),
-        Some(Ordering::Less) => format!("{name} in {}", PLACES[1]),
-        Some(Ordering::Greater) => format!("{name} in {}", PLACES[2]),
-    }];
+    let place = fault.day.map(|at| match at.cmp(&(day as usize)) {
+        Ordering::Equal => PLACES[0],
+        Ordering::Less => PLACES[1],
+        Ordering::Greater => PLACES[2],
+    });
+    let mut kinds = vec![place.map_or(name.to_string(), |place| format!("{name} in {place}"))];
     if trace.first().is_none_or(|count| day >= *count) {
         kinds.push(TWICE[0].to_string());
     } else if lacks_room(trace, day, room) {
@@ -101,20 +86,20 @@ fn lacks_room(trace: &[u32], day: u32, room: usize) -> bool {
 }
 
 fn fault_name(trace: &[u32], fault: Fault) -> &'static str {
-    match fault {
-        Fault::Empty => WHOLE[0],
-        Fault::Count(count) if count == DAYS_MAX + 1 => WHOLE[1],
-        Fault::Count(_) => WHOLE[2],
-        Fault::Pairs(_) => WHOLE[3],
-        Fault::Follows(_) => WHOLE[4],
-        Fault::Offset { .. } => OF_A_DAY[0],
-        Fault::Length { .. } => OF_A_DAY[1],
-        Fault::End { .. } => OF_A_DAY[2],
-        Fault::Kind { .. } => OF_A_DAY[3],
-        Fault::Rest { word, .. } => {
+    match fault.why {
+        Why::Empty => WHOLE[0],
+        Why::Count(count) if count == DAYS_MAX + 1 => WHOLE[1],
+        Why::Count(_) => WHOLE[2],
+        Why::Pairs => WHOLE[3],
+        Why::Follows => WHOLE[4],
+        Why::Offset(..) => OF_A_DAY[0],
+        Why::Length(_) => OF_A_DAY[1],
+        Why::End(_) => OF_A_DAY[2],
+        Why::Kind(_) => OF_A_DAY[3],
+        Why::Rest(_) => {
             let first = pairs_end(trace[0] as usize);
-            let place = (word - first) % RECORD_WORDS;
-            match (trace[word - place], place) {
+            let place = (fault.word - first) % RECORD_WORDS;
+            match (trace[fault.word - place], place) {
                 (CLOCK, 2) => OF_A_DAY[4],
                 (CLOCK, _) => OF_A_DAY[5],
                 _ => OF_A_DAY[6],
@@ -123,41 +108,41 @@ fn fault_name(trace: &[u32], fault: Fault) -> &'static str {
     }
 }
 
-fn no_day(trace: &[u32], day: u32, room: usize) -> Vec<String> {
-    let count = trace[0];
-    let kind = match day - count {
-        _ if count == 0 => NO_DAY[0],
-        0 => NO_DAY[1],
-        1 => NO_DAY[2],
-        _ => NO_DAY[3],
-    };
-    that_hold([(kind, true), (TWICE[2], lacks_room(trace, day, room))])
+/// How far beyond the last day the one is that is asked for. The first that holds is told.
+fn missing(count: u32, day: u32) -> Cases<4> {
+    [
+        ("no day at all", count == 0),
+        ("day = count", day == count),
+        ("day = count + 1", day == count + 1),
+        ("a day far beyond", true),
+    ]
 }
 
-fn found(trace: &[u32], day: u32, records: usize, room: usize) -> Vec<String> {
+/// Which day is found.
+fn which(trace: &[u32], day: u32) -> Cases<4> {
     let count = trace[0];
     let is_empty = |day: u32| trace[pair(day as usize).end - 1] == 0;
-    let places = [
-        day == 0,
-        day > 0 && day + 1 < count,
-        day + 1 == count,
-        records > 0 && day > 0 && is_empty(day - 1),
-    ];
-    let which = WHICH.into_iter().zip(places);
-    that_hold(which.chain([(room_name(records, room), true)]))
+    let after_empty = day > 0 && is_empty(day - 1) && !is_empty(day);
+    [
+        ("the first day", day == 0),
+        ("a day between", day > 0 && day + 1 < count),
+        ("the last day", day + 1 == count),
+        ("a day after an empty one", after_empty),
+    ]
 }
 
-fn room_name(records: usize, room: usize) -> &'static str {
+/// How much room there is for the answers. The first that holds is told.
+fn rooms(records: usize, room: usize) -> Cases<9> {
     let needed = ANSWER_WORDS * records;
-    match room {
-        0 if records == 0 => ROOMS[0],
-        _ if records == 0 => ROOMS[1],
-        0 => ROOMS[2],
-        _ if room + 1 == needed => ROOMS[3],
-        _ if room == records => ROOMS[4],
-        _ if room < needed => ROOMS[5],
-        _ if room == needed => ROOMS[6],
-        _ if room == needed + 1 => ROOMS[7],
-        _ => ROOMS[8],
-    }
+    [
+        ("empty day, no room", records == 0 && room == 0),
+        ("empty day, room", records == 0),
+        ("no room", room == 0),
+        ("a word short", room + 1 == needed),
+        ("a word for each record", room == records),
+        ("words short", room < needed),
+        ("as many words as needed", room == needed),
+        ("a word more", room == needed + 1),
+        ("more words", true),
+    ]
 }

@@ -93,7 +93,9 @@ pub trait Calls {
         when(book.len() != shape.book_length(), refusal::LENGTH)?;
         book[..layout::HEAD_WORDS].copy_from_slice(&[k, n, m, g, 0, 0, 0, 0]);
         for grade in 0..g {
-            [0, 1].map(|parity| empty(shape, &mut book[shape.block(grade)], parity));
+            for parity in [0, 1] {
+                empty(shape, &mut book[shape.block(grade)], parity);
+            }
         }
         Ok(())
     }

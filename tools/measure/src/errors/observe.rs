@@ -63,9 +63,10 @@ pub struct Observed {
 
 impl Observed {
     /// The answer with the greatest relative error.
-    pub fn worst(&self) -> Option<Observation> {
+    pub fn worst(&self) -> Observation {
         let observations = self.observations.iter().copied();
-        observations.max_by(|a, b| a.relative_error().total_cmp(&b.relative_error()))
+        let worst = observations.max_by(|a, b| a.relative_error().total_cmp(&b.relative_error()));
+        worst.expect("every order asks")
     }
 
     /// The first answer of which something proved does not hold, and what.

@@ -52,16 +52,14 @@ pub fn question(window: u32) -> Call {
 /// Questions over windows from a second to an interval, evenly on a log scale, and over such as open at
 /// one of the given ticks or next to it.
 fn questions(random: &mut Random, clock: u32, ticks: &[u32]) -> Vec<Call> {
-    const SPREAD: u32 = 64;
-    const AIMED: u32 = 96;
-    let spread = (0..=SPREAD).map(|part| {
-        let power = f64::from(part) / f64::from(SPREAD);
+    let spread = (0..=64).map(|part| {
+        let power = f64::from(part) / 64.0;
         f64::from(TICKS).powf(power).round() as u32
     });
-    let aimed = (0..AIMED).map(|_| {
+    let aimed = (0..96).map(|_| {
         let opening = (random.pick(ticks) + random.between(0, 1)).min(clock);
-        let window = window_from(clock, opening).expect("no tick after the clock");
-        window.min(TICKS)
+        let window = window_from(clock, opening);
+        window.expect("no tick after the clock").min(TICKS)
     });
     spread.chain(aimed).map(question).collect()
 }
@@ -69,8 +67,6 @@ fn questions(random: &mut Random, clock: u32, ticks: &[u32]) -> Vec<Call> {
 const HOUR: u32 = 3600;
 /// A little less than two intervals.
 const HOURS: u32 = 24 * 24;
-/// Most stamps that a question's opening is drawn from.
-const RECENT: usize = 4000;
 /// Cars by hour of the day.
 const CARS: [u32; 24] = [
     3, 2, 2, 2, 4, 12, 35, 50, 45, 28, 22, 24, 30, 26, 22, 26, 40, 55, 48, 30, 18, 12, 8, 5,
@@ -123,7 +119,7 @@ fn arriving(name: &'static str, random: &mut Random, reports: &[Report]) -> Orde
     let (mut clock, mut next) = (0, 6 * HOUR);
     for &(arrival, stamp, volume) in reports {
         if arrival > next && !stamps.is_empty() {
-            let recent = &stamps[stamps.len().saturating_sub(RECENT)..];
+            let recent = &stamps[stamps.len().saturating_sub(4000)..];
             calls.extend(questions(random, clock, recent));
             next += 6 * HOUR;
         }

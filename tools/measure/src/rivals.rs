@@ -26,12 +26,7 @@ pub use plain::Plain;
 type Slot = [u32; layout::SLOT_WORDS];
 
 /// A level's words: the bucket count, the first kept offset, and all n slots.
-#[derive(Clone, Copy)]
-pub struct Level<'a> {
-    count: u32,
-    first: u32,
-    slots: &'a [Slot],
-}
+type Level<'a> = (u32, u32, &'a [Slot]);
 
 /// The four calls on words of any length and content; an error is the refusal's number, and a call
 /// that is refused writes no word.
@@ -59,8 +54,8 @@ pub trait Calls {
     /// Whether a level is sound under this total.
     #[inline(always)]
     fn level_is_sound(shape: Shape, index: u32, level: Level, total: u32) -> bool {
-        let (first, slots) = (level.first, level.slots);
-        let Some((used, unused)) = slots.split_at_checked(level.count as usize) else {
+        let (count, first, slots) = level;
+        let Some((used, unused)) = slots.split_at_checked(count as usize) else {
             return false;
         };
         let sum = || match index {
@@ -175,9 +170,9 @@ fn empty(shape: Shape, block: &mut [u32], parity: usize) {
 fn sum_from(shape: Shape, block: &[u32], opening: u64) -> u64 {
     let offset = shape.offset(opening) as u32;
     let mut levels = levels(shape, block, shape.parity(opening));
-    let serving = levels.find(|level| level.first <= offset);
-    let level = serving.expect("the last level of a sound half keeps every offset");
-    let buckets = &level.slots[..level.count as usize];
+    let serving = levels.find(|(_, first, _)| *first <= offset);
+    let (count, _, slots) = serving.expect("the last level of a sound half keeps every offset");
+    let buckets = &slots[..count as usize];
     let counted = &buckets[buckets.partition_point(|slot| slot[0] < offset)..];
     // The weights of a sound level add up to at most 2^24.
     u64::from(counted.iter().map(|slot| slot[2]).sum::<u32>())
@@ -186,10 +181,9 @@ fn sum_from(shape: Shape, block: &[u32], opening: u64) -> u64 {
 /// The levels of a half of a block.
 fn levels(shape: Shape, block: &[u32], parity: usize) -> impl Iterator<Item = Level<'_>> {
     let levels = block[half(shape, parity)].chunks_exact(shape.level_length());
-    levels.map(|words| Level {
-        count: words[layout::COUNT],
-        first: words[layout::FIRST],
-        slots: words[layout::LEVEL_HEAD_WORDS..].as_chunks().0,
+    levels.map(|words| {
+        let slots = words[layout::LEVEL_HEAD_WORDS..].as_chunks().0;
+        (words[layout::COUNT], words[layout::FIRST], slots)
     })
 }
 

@@ -113,19 +113,15 @@ const RECORDS: u32 = 1_000;
 const RECORDS_PER_QUERY: u32 = 50;
 
 /// On the site shape the library may cost a tenth more than (b), and (b), to be a fair rival, three bare reads.
-const DELIVERY: Targets = &[(1, 1.1), (2, 3.0), (3, 3.0)];
+const FAIR: Targets = &[(1, 1.1), (2, 3.0), (3, 3.0)];
 const QUESTION: Targets = &[(1, 1.1)];
 /// A ground may cost a twentieth more than its question, a replayed record than its call.
 const NEAR: Targets = &[(0, 1.05)];
 
 /// The short window is an hour of the site, the whole interval opens in the one before.
 const KINDS: [(&str, Kind, Targets); 8] = [
-    ("delivery of 1 decilitre", Kind::Delivery(Some(1)), DELIVERY),
-    (
-        "delivery, volumes of the load",
-        Kind::Delivery(None),
-        DELIVERY,
-    ),
+    ("delivery of 1 decilitre", Kind::Delivery(Some(1)), FAIR),
+    ("delivery, volumes of the load", Kind::Delivery(None), FAIR),
     ("question, short window", Kind::Question(256), QUESTION),
     ("question, half an interval", Kind::Question(2), QUESTION),
     ("question, a whole interval", Kind::Question(1), QUESTION),

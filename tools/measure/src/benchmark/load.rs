@@ -119,10 +119,8 @@ fn grown_books_are_sound_and_nearly_full() {
             assert!(reference::calls::query(&grown.words, grade, 1 << k).is_ok());
             let block = &grown.words[grown.shape.block(grade)];
             let parts = [0, 1].map(|parity| u64::from(block[parity]) * 100 / (1 << m));
-            assert!(
-                (75..=100).contains(&parts[0]) && (50..80).contains(&parts[1]),
-                "{parts:?}"
-            );
+            let is_full = (75..=100).contains(&parts[0]) && (50..80).contains(&parts[1]);
+            assert!(is_full, "{parts:?}");
             let filled = grown.full_levels(grade);
             assert!(m < 10 || filled.iter().all(|full| *full >= 7), "{filled:?}");
         }

@@ -51,7 +51,6 @@ pub trait Calls {
         })
     }
 
-    /// Whether a level is sound under this total.
     #[inline(always)]
     fn level_is_sound(shape: Shape, index: u32, level: Level, total: u32) -> bool {
         let (count, first, slots) = level;

@@ -16,14 +16,12 @@ pub const DELIVERIES: u64 = 20_000;
 pub const ARRIVALS_PER_CLOCK: u32 = 16;
 const ACCEPTED: &str = "the book takes the load";
 
-/// How deliveries of a shape come.
 pub struct Load {
     shape: Shape,
     random: Random,
 }
 
 impl Load {
-    /// The load of a shape; equal seeds give equal loads.
     pub fn new(shape: Shape, seed: u64) -> Load {
         let random = Random::new(seed);
         Load { shape, random }
@@ -46,7 +44,6 @@ impl Load {
         }
     }
 
-    /// The mean volume.
     fn mean(&self) -> u64 {
         (self.most() / DELIVERIES).max(1)
     }

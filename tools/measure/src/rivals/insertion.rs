@@ -24,7 +24,15 @@ pub fn insert(level: &mut [u32], index: u32, offset: u32, volume: u32) -> u32 {
     let (count, first, splits) = if index == 0 {
         at_tick(slots, count, first, offset, volume)
     } else {
-        in_span(slots, count, first, index, offset, volume)
+        // The bucket that spans the offset takes the volume, or is split.
+        let at = below(&slots[..count], offset + 1) - 1;
+        let [_, length, weight] = slots[at];
+        if length > 1 && volume >= (2 << index) - weight {
+            split(slots, count, index, offset, volume, at)
+        } else {
+            slots[at][2] += volume;
+            (count, first, 0)
+        }
     };
     head.copy_from_slice(&[count as u32, first]);
     splits
@@ -65,30 +73,11 @@ fn at_tick(slots: &mut [Slot], count: usize, first: u32, offset: u32, volume: u3
     }
 }
 
-/// Level i from 1 on: the bucket that spans the offset takes the volume, or is split.
-fn in_span(
-    slots: &mut [Slot],
-    count: usize,
-    first: u32,
-    index: u32,
-    offset: u32,
-    volume: u32,
-) -> Inserted {
-    let at = below(&slots[..count], offset + 1) - 1;
-    let [_, length, weight] = slots[at];
-    if length > 1 && volume >= (2 << index) - weight {
-        return split(slots, count, first, index, offset, volume, at);
-    }
-    slots[at][2] += volume;
-    (count, first, 0)
-}
-
 /// Fills the bucket of this slot, splits it, and goes on in the half that spans the offset.
 #[inline(never)]
 fn split(
     slots: &mut [Slot],
     count: usize,
-    first: u32,
     index: u32,
     offset: u32,
     volume: u32,
@@ -137,11 +126,6 @@ fn split(
         slots[to] = [start, length, weight + rest];
     }
     slots[at - gone..to].copy_from_slice(before);
-    let first = if evicted > 0 || !kept {
-        slots[0][0]
-    } else {
-        first
-    };
     // Each split left one half before the bucket or after it.
-    (count_after, first, (befores + afters) as u32)
+    (count_after, slots[0][0], (befores + afters) as u32)
 }

@@ -26,22 +26,23 @@ pub fn read(mut words: Words) -> Result<(usize, bool), String> {
 
 /// Measures all and prints the tables.
 pub fn run(rounds: usize, twice: bool) -> ExitCode {
-    // A day or a merge has as many words as many batches of calls, so there are fewer of them.
-    let fewer = rounds.div_ceil(6);
-    let measured = || {
-        [calls::run(rounds, fewer), vec![merge::run(fewer)]]
-            .into_iter()
-            .flatten()
-    };
-    let tables: Vec<Table> = measured().collect();
+    let tables = measured(rounds);
     for table in &tables {
         println!("{table}");
     }
     println!("{}", targets(&tables));
     if twice {
-        println!("{}", moved(&tables, &measured().collect::<Vec<_>>()));
+        println!("{}", moved(&tables, &measured(rounds)));
     }
     ExitCode::SUCCESS
+}
+
+fn measured(rounds: usize) -> Vec<Table> {
+    // A day or a merge has as many words as many batches of calls, so there are fewer of them.
+    let fewer = rounds.div_ceil(6);
+    let mut tables = calls::run(rounds, fewer);
+    tables.push(merge::run(fewer));
+    tables
 }
 
 #[test]

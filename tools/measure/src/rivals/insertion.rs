@@ -24,15 +24,7 @@ pub fn insert(level: &mut [u32], index: u32, offset: u32, volume: u32) -> u32 {
     let (count, first, splits) = if index == 0 {
         at_tick(slots, count, first, offset, volume)
     } else {
-        // The bucket that spans the offset takes the volume, or is split.
-        let at = below(&slots[..count], offset + 1) - 1;
-        let [_, length, weight] = slots[at];
-        if length > 1 && volume >= (2 << index) - weight {
-            split(slots, count, index, offset, volume, at)
-        } else {
-            slots[at][2] += volume;
-            (count, first, 0)
-        }
+        in_span(slots, count, index, offset, volume)
     };
     head.copy_from_slice(&[count as u32, first]);
     splits
@@ -71,6 +63,18 @@ fn at_tick(slots: &mut [Slot], count: usize, first: u32, offset: u32, volume: u3
         slots[at - 1] = made;
         (count, first, 0)
     }
+}
+
+/// Level i from 1 on: the bucket that spans the offset takes the volume, or is split. The first bucket begins
+/// at the first kept offset.
+fn in_span(slots: &mut [Slot], count: usize, index: u32, offset: u32, volume: u32) -> Inserted {
+    let at = below(&slots[..count], offset + 1) - 1;
+    let [_, length, weight] = slots[at];
+    if length > 1 && volume >= (2 << index) - weight {
+        return split(slots, count, index, offset, volume, at);
+    }
+    slots[at][2] += volume;
+    (count, slots[0][0], 0)
 }
 
 /// Fills the bucket of this slot, splits it, and goes on in the half that spans the offset.

@@ -1,9 +1,14 @@
-//! Measures the static library: how fast it is, or how far its sums are off.
+//! Measures the static library: how fast it is beside hand-written Rust, or how far its sums are off.
+
+#![forbid(unsafe_code)]
+
+mod benchmark;
+mod errors;
+mod rivals;
 
 use std::process::ExitCode;
 
 use compare::options::{self, Words};
-use measure::{benchmark, errors};
 
 const USAGE: &str = "\
 usage: measure benchmark [--rounds N] [--twice]

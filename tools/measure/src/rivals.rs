@@ -13,7 +13,7 @@ mod tests;
 
 use std::ops::Range;
 
-use reference::calls::{Answer, Call, Reply};
+use reference::calls::{open, Answer, Call, Reply};
 use reference::layout;
 use reference::refusal::{self, when};
 use reference::shape::Shape;
@@ -26,12 +26,7 @@ pub use plain::Plain;
 type Slot = [u32; layout::SLOT_WORDS];
 
 /// A level's words: the bucket count, the first kept offset, and all n slots.
-#[derive(Clone, Copy)]
-pub struct Level<'a> {
-    count: u32,
-    first: u32,
-    slots: &'a [Slot],
-}
+type Level<'a> = (u32, u32, &'a [Slot]);
 
 /// The four calls on words of any length and content; an error is the refusal's number, and a call
 /// that is refused writes no word.
@@ -56,11 +51,10 @@ pub trait Calls {
         })
     }
 
-    /// Whether a level is sound under this total.
     #[inline(always)]
     fn level_is_sound(shape: Shape, index: u32, level: Level, total: u32) -> bool {
-        let (first, slots) = (level.first, level.slots);
-        let Some((used, unused)) = slots.split_at_checked(level.count as usize) else {
+        let (count, first, slots) = level;
+        let Some((used, unused)) = slots.split_at_checked(count as usize) else {
             return false;
         };
         let sum = || match index {
@@ -73,7 +67,6 @@ pub trait Calls {
         (first == 0 || unused.is_empty()) && sum().is_some_and(weighs) && Self::are_zero(unused)
     }
 
-    /// Any of the calls.
     fn perform(book: &mut [u32], call: Call) -> Reply {
         let done = |()| Answer::Done;
         match call {
@@ -94,9 +87,9 @@ pub trait Calls {
         when(book.len() != shape.book_length(), refusal::LENGTH)?;
         book[..layout::HEAD_WORDS].copy_from_slice(&[k, n, m, g, 0, 0, 0, 0]);
         for grade in 0..g {
-            let block = &mut book[shape.block(grade)];
-            empty(shape, block, 0);
-            empty(shape, block, 1);
+            for parity in [0, 1] {
+                empty(shape, &mut book[shape.block(grade)], parity);
+            }
         }
         Ok(())
     }
@@ -113,13 +106,10 @@ pub trait Calls {
         book[layout::CLOCK] = clock;
         let entered = shape.interval(clock.into()) - shape.interval(old.into());
         let parity = shape.parity(clock.into());
+        let emptied = &[parity, 1 - parity][..entered.min(2) as usize];
         for grade in 0..shape.g() {
-            let block = &mut book[shape.block(grade)];
-            if entered >= 1 {
-                empty(shape, block, parity);
-            }
-            if entered >= 2 {
-                empty(shape, block, 1 - parity);
+            for parity in emptied {
+                empty(shape, &mut book[shape.block(grade)], *parity);
             }
         }
         Ok(())
@@ -141,10 +131,8 @@ pub trait Calls {
         block[parity] += volume;
         let offset = shape.offset(tick) as u32;
         let levels = block[half(shape, parity)].chunks_exact_mut(shape.level_length());
-        let splits = (0..)
-            .zip(levels)
-            .map(|(index, level)| insertion::insert(level, index, offset, volume));
-        Ok(splits.sum())
+        let insert = |(index, level)| insertion::insert(level, index, offset, volume);
+        Ok((0..).zip(levels).map(insert).sum())
     }
 
     /// The sum of a window that ends at the clock; 0 for window 0, once nothing refuses it.
@@ -158,25 +146,11 @@ pub trait Calls {
         let Some(opening) = opening(clock, window) else {
             return Ok(0);
         };
-        let clock = u64::from(clock);
-        let sum = sum_from(shape, block, opening);
-        if shape.interval(opening) == shape.interval(clock) {
-            Ok(sum)
-        } else {
-            Ok(sum + u64::from(block[shape.parity(clock)]))
-        }
+        let (opened, now) = (shape.parity(opening), shape.parity(clock.into()));
+        // The interval of the opening is that of the clock or the one before.
+        let whole = if opened == now { 0 } else { block[now] };
+        Ok(u64::from(whole) + sum_from(shape, block, opening))
     }
-}
-
-/// The refusals that clock, delivery and query share: too short for a head, head, length.
-fn open(book: &[u32]) -> Result<(Shape, u32), u32> {
-    let head = book.first_chunk::<{ layout::HEAD_WORDS }>();
-    let &[k, n, m, g, clock, a, b, c] = head.ok_or(refusal::LENGTH)?;
-    let shape = Shape::new(k, n, m, g).ok_or(refusal::HEAD)?;
-    let unsound = clock > Shape::CLOCK_MAX || a | b | c != 0;
-    when(unsound, refusal::HEAD)?;
-    when(book.len() != shape.book_length(), refusal::LENGTH)?;
-    Ok((shape, clock))
 }
 
 /// Empties one half of a block: only count and length of each first bucket are not zero.
@@ -195,9 +169,9 @@ fn empty(shape: Shape, block: &mut [u32], parity: usize) {
 fn sum_from(shape: Shape, block: &[u32], opening: u64) -> u64 {
     let offset = shape.offset(opening) as u32;
     let mut levels = levels(shape, block, shape.parity(opening));
-    let serving = levels.find(|level| level.first <= offset);
-    let level = serving.expect("the last level of a sound half keeps every offset");
-    let buckets = &level.slots[..level.count as usize];
+    let serving = levels.find(|(_, first, _)| *first <= offset);
+    let (count, _, slots) = serving.expect("the last level of a sound half keeps every offset");
+    let buckets = &slots[..count as usize];
     let counted = &buckets[buckets.partition_point(|slot| slot[0] < offset)..];
     // The weights of a sound level add up to at most 2^24.
     u64::from(counted.iter().map(|slot| slot[2]).sum::<u32>())
@@ -207,12 +181,8 @@ fn sum_from(shape: Shape, block: &[u32], opening: u64) -> u64 {
 fn levels(shape: Shape, block: &[u32], parity: usize) -> impl Iterator<Item = Level<'_>> {
     let levels = block[half(shape, parity)].chunks_exact(shape.level_length());
     levels.map(|words| {
-        let (head, slots) = words.split_at(layout::LEVEL_HEAD_WORDS);
-        Level {
-            count: head[0],
-            first: head[1],
-            slots: slots.as_chunks().0,
-        }
+        let slots = words[layout::LEVEL_HEAD_WORDS..].as_chunks().0;
+        (words[layout::COUNT], words[layout::FIRST], slots)
     })
 }
 

@@ -19,61 +19,41 @@ of that in SECOND. If it is refused, the number and the reason are told, and FIL
 print tells where each day of a trace starts, how many words it has, and its records as such lines,
 or where the layout is broken.";
 
-/// What the program is asked to do.
-#[derive(Clone, Debug, PartialEq, Eq)]
+/// What the program is asked for.
 pub enum Command {
-    /// Make a trace of these days.
-    Make {
-        /// Where it goes; standard output if it is not said.
-        output: Option<PathBuf>,
-        /// The files of the days.
-        days: Vec<PathBuf>,
-    },
-    /// Merge two days.
-    Merge {
-        /// Where the trace of the merged day goes; standard output if it is not said.
-        output: Option<PathBuf>,
-        /// The files of the two traces, and a day of each.
-        days: [(PathBuf, u32); 2],
-    },
-    /// Print the trace of this file.
+    /// A trace of the days in these files.
+    Make(Vec<PathBuf>),
+    /// A trace of one day, merged from two: the files of their traces, and their numbers there.
+    Merge([(PathBuf, u32); 2]),
+    /// The lines of the trace in this file.
     Print(PathBuf),
 }
 
-impl Command {
-    /// Reads a command line; the error says what is wrong with it.
-    pub fn read(mut words: Words) -> Result<Command, String> {
-        let output = words.file("-o")?.map(PathBuf::from);
-        let mut rest = words.rest()?.into_iter();
-        let command = rest.next().ok_or("make, merge or print is missing")?;
-        match command.to_str() {
-            Some("make") => {
-                let days: Vec<PathBuf> = rest.map(PathBuf::from).collect();
-                if days.is_empty() {
-                    return Err("DAY is missing".to_string());
-                }
-                Ok(Command::Make { output, days })
-            }
-            Some("merge") => {
-                let names = ["FIRST", "I", "SECOND", "J"];
-                let [first, first_day, second, second_day] = Words::new(rest).operands(names)?;
-                let days = [
-                    (PathBuf::from(first), day(&first_day)?),
-                    (PathBuf::from(second), day(&second_day)?),
-                ];
-                Ok(Command::Merge { output, days })
-            }
-            Some("print") if output.is_some() => Err("-o goes with make and merge".to_string()),
-            Some("print") => {
-                let [file] = Words::new(rest).operands(["FILE"])?;
-                Ok(Command::Print(PathBuf::from(file)))
-            }
-            _ => Err(format!(
-                "neither make nor merge nor print: {}",
-                command.display()
-            )),
+/// Reads a command line: what is asked for, and the file that it goes to, if it is one; the error says what is
+/// wrong.
+pub fn read(mut words: Words) -> Result<(Command, Option<PathBuf>), String> {
+    let output = words.file("-o")?.map(PathBuf::from);
+    let mut rest = words.rest()?.into_iter();
+    let command = rest.next().ok_or("make, merge or print is missing")?;
+    let command = match command.to_str() {
+        Some("make") if rest.len() == 0 => return Err("DAY is missing".to_string()),
+        Some("make") => Command::Make(rest.map(PathBuf::from).collect()),
+        Some("merge") => {
+            let names = ["FIRST", "I", "SECOND", "J"];
+            let [first, one, second, other] = Words::new(rest).operands(names)?;
+            Command::Merge([(first.into(), day(&one)?), (second.into(), day(&other)?)])
         }
-    }
+        Some("print") if output.is_some() => return Err("-o goes with make and merge".to_string()),
+        Some("print") => {
+            let [file] = Words::new(rest).operands(["FILE"])?;
+            Command::Print(file.into())
+        }
+        _ => {
+            let command = command.display();
+            return Err(format!("neither make nor merge nor print: {command}"));
+        }
+    };
+    Ok((command, output))
 }
 
 /// The number of a day.

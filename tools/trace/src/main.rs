@@ -1,4 +1,12 @@
-//! Makes a trace, merges two days of traces, or prints one.
+//! A trace as files: lines of the bench protocol for each day on one side, 32-bit words with the low byte
+//! first on the other. What a trace is, the second program says; the library merges two days of traces.
+
+#![forbid(unsafe_code)]
+
+mod command;
+mod make;
+mod merge;
+mod print;
 
 use std::fmt::Display;
 use std::fs;
@@ -6,43 +14,43 @@ use std::io::{self, Write};
 use std::path::{Path, PathBuf};
 use std::process::ExitCode;
 
+use command::{Command, USAGE};
+use make::{bytes, make};
+use merge::merge;
+use print::{print, words};
 use reference::merge::Named;
-use trace::command::{Command, USAGE};
-use trace::make::{bytes, make};
-use trace::merge::merge;
-use trace::print::{print, words};
 
 fn main() -> ExitCode {
-    compare::options::main(USAGE, Command::read, |command| match run(command) {
-        Ok(()) => ExitCode::SUCCESS,
-        Err(trouble) => {
-            eprintln!("{trouble}");
-            ExitCode::FAILURE
+    compare::options::main(USAGE, command::read, |(command, output)| {
+        match run(command).and_then(|bytes| write(output.as_deref(), &bytes)) {
+            Ok(()) => ExitCode::SUCCESS,
+            Err(trouble) => {
+                eprintln!("{trouble}");
+                ExitCode::FAILURE
+            }
         }
     })
 }
 
-fn run(command: Command) -> Result<(), String> {
+/// The bytes that are asked for.
+fn run(command: Command) -> Result<Vec<u8>, String> {
     match command {
-        Command::Make { output, days } => {
+        Command::Make(days) => {
             let named = |path: &PathBuf| Ok((path.display().to_string(), read(path)?));
             let days: Result<Vec<_>, String> = days.iter().map(named).collect();
-            write(output.as_deref(), &bytes(&make(&days?)?))
+            Ok(bytes(&make(&days?)?))
         }
-        Command::Merge { output, days } => {
-            let [(first, first_day), (second, second_day)] = days;
-            let names = [&first, &second].map(|file| file.display().to_string());
+        Command::Merge(days) => {
+            let names = days.each_ref().map(|(file, _)| file.display().to_string());
+            let [(first, one), (second, other)] = days;
             let (first, second) = (read_words(&first)?, read_words(&second)?);
             let named = |trace, day| Named { trace, day };
-            let merged = merge([
-                (&names[0], named(&first, first_day)),
-                (&names[1], named(&second, second_day)),
-            ])?;
-            write(output.as_deref(), &bytes(&merged))
+            let (first, second) = (named(&first, one), named(&second, other));
+            Ok(bytes(&merge([(&names[0], first), (&names[1], second)])?))
         }
         Command::Print(file) => {
             let text = print(&read_words(&file)?).map_err(|trouble| of_file(&file, trouble))?;
-            write(None, text.as_bytes())
+            Ok(text.into_bytes())
         }
     }
 }

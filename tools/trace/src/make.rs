@@ -8,14 +8,13 @@ pub fn make(days: &[(String, Vec<u8>)]) -> Result<Vec<u32>, String> {
     if days.len() > DAYS_MAX as usize {
         return Err(format!("{} days, at most {DAYS_MAX}", days.len()));
     }
-    let days: Result<Vec<Vec<u32>>, String> = days
-        .iter()
-        .map(|(name, text)| day(text).map_err(|trouble| format!("{name}, {trouble}")))
-        .collect();
-    let days = days?;
-    let lengths: Vec<usize> = days.iter().map(Vec::len).collect();
+    let mut read = Vec::new();
+    for (name, text) in days {
+        read.push(day(text).map_err(|trouble| format!("{name}, {trouble}"))?);
+    }
+    let lengths: Vec<usize> = read.iter().map(Vec::len).collect();
     check_lengths(&lengths)?;
-    Ok(lay_out(&days))
+    Ok(lay_out(&read))
 }
 
 /// Whether days of so many words make a trace of less than 2^32, since the pairs have 32 bits for a place.
@@ -43,4 +42,23 @@ fn day(text: &[u8]) -> Result<Vec<u32>, String> {
 /// The bytes of words, the low one of each first.
 pub fn bytes(words: &[u32]) -> Vec<u8> {
     words.iter().flat_map(|word| word.to_le_bytes()).collect()
+}
+
+/// Days that are too long for a trace. Only their lengths are tried, not so many words.
+#[test]
+fn places_have_32_bits() {
+    let most = u32::MAX as usize;
+    // The count and a pair for each day are words as well.
+    for (days, words) in [
+        (&[][..], 1),
+        (&[most - 3], most),
+        (&[most - 2], most + 1),
+        (&[most - 9, 4], most),
+        (&[most - 9, 8], most + 4),
+        (&[usize::MAX, 4], usize::MAX),
+    ] {
+        let trouble = format!("{words} words, at most 4294967295");
+        let expected = if words > most { Err(trouble) } else { Ok(()) };
+        assert_eq!(check_lengths(days), expected);
+    }
 }

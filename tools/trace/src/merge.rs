@@ -16,8 +16,8 @@ pub fn merge(days: [(&str, Named); 2]) -> Result<Vec<u32>, String> {
     let length = length(first).saturating_add(length(second));
     check_lengths(&[length])?;
     let mut day = vec![0; length];
-    litres::merge(first.trace, first.day, second.trace, second.day, &mut day)
-        .map_err(|refused| told(days, refused))?;
+    let merged = litres::merge(first.trace, first.day, second.trace, second.day, &mut day);
+    merged.map_err(|refused| told(days, refused))?;
     Ok(lay_out(&[day]))
 }
 
@@ -27,13 +27,12 @@ fn told(days: [(&str, Named); 2], refused: Refused) -> String {
         Err(number) => number == refused.0,
         Ok(day) => refused.0 == ORDER && home_clocks(day).is_err(),
     };
-    let line = |(file, day): (&str, Named)| {
-        let named = format!("{file}, day {}", day.day);
-        concerned(day).then(|| format!("{named}: refused {}, {refused}", refused.0))
-    };
-    let lines: Vec<String> = days.into_iter().filter_map(line).collect();
+    let reason = format!("refused {}, {refused}", refused.0);
+    let concerned = days.iter().filter(|(_, day)| concerned(*day));
+    let line = |(file, day): &(&str, Named)| format!("{file}, day {}: {reason}", day.day);
+    let lines: Vec<String> = concerned.map(line).collect();
     match lines[..] {
-        [] => format!("refused {}, {refused}", refused.0),
+        [] => reason,
         _ => lines.join("\n"),
     }
 }

@@ -1,7 +1,5 @@
 //! A trace in lines that a person can read.
 
-use std::fmt::Write;
-
 use reference::protocol::line;
 use reference::trace::{calls, days};
 
@@ -14,21 +12,15 @@ pub fn words(bytes: &[u8]) -> Result<Vec<u32>, String> {
     Ok(whole.iter().map(|word| u32::from_le_bytes(*word)).collect())
 }
 
-/// Why writing a line to a string cannot fail.
-const TAKES_ALL: &str = "a string takes every text";
-
 /// Each day's number, start and words, and its records as lines of the bench protocol; the error says
 /// where the layout is broken.
 pub fn print(trace: &[u32]) -> Result<String, String> {
     let days = days(trace).map_err(|fault| fault.to_string())?;
-    let mut text = String::new();
-    writeln!(text, "days {}, words {}", days.len(), trace.len()).expect(TAKES_ALL);
+    let mut text = format!("days {}, words {}\n", days.len(), trace.len());
     for (number, part) in days.into_iter().enumerate() {
         let (start, words) = (part.start, part.len());
-        writeln!(text, "day {number}: start {start}, words {words}").expect(TAKES_ALL);
-        for call in calls(&trace[part]) {
-            writeln!(text, "{}", line(call)).expect(TAKES_ALL);
-        }
+        text += &format!("day {number}: start {start}, words {words}\n");
+        text.extend(calls(&trace[part]).map(|call| line(call) + "\n"));
     }
     Ok(text)
 }

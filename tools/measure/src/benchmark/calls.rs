@@ -12,7 +12,7 @@ use reference::replay::{answer_words, ANSWER_WORDS};
 use reference::trace::{lay_out, record};
 
 use super::load::{Grown, Load, ARRIVALS_PER_CLOCK, DELIVERIES};
-use super::table::{thousands, Form, Row, Table, Targets};
+use super::table::{thousands, Form, Table, Targets};
 use super::timing::{in_turns, time, Times};
 use crate::rivals::{Calls, Fast, Plain};
 
@@ -113,17 +113,15 @@ const RECORDS: u32 = 1_000;
 const RECORDS_PER_QUERY: u32 = 50;
 
 /// On the site shape the library may cost a tenth more than (b), and (b), to be a fair rival, three bare reads.
-const DELIVERY: Targets = &[(1, 1.1), (2, 3.0), (3, 3.0)];
+const FAIR: Targets = &[(1, 1.1), (2, 3.0), (3, 3.0)];
 const QUESTION: Targets = &[(1, 1.1)];
+/// A ground may cost a twentieth more than its question, a replayed record than its call.
+const NEAR: Targets = &[(0, 1.05)];
 
 /// The short window is an hour of the site, the whole interval opens in the one before.
 const KINDS: [(&str, Kind, Targets); 8] = [
-    ("delivery of 1 decilitre", Kind::Delivery(Some(1)), DELIVERY),
-    (
-        "delivery, volumes of the load",
-        Kind::Delivery(None),
-        DELIVERY,
-    ),
+    ("delivery of 1 decilitre", Kind::Delivery(Some(1)), FAIR),
+    ("delivery, volumes of the load", Kind::Delivery(None), FAIR),
     ("question, short window", Kind::Question(256), QUESTION),
     ("question, half an interval", Kind::Question(2), QUESTION),
     ("question, a whole interval", Kind::Question(1), QUESTION),
@@ -205,15 +203,19 @@ impl<'a> Work<'a> {
         let batch = self.batch(load);
         let records: Vec<_> = batch.iter().filter_map(|call| record(*call)).collect();
         let trace = lay_out(&[records.concat()]);
-        let mut expected = None;
+        let (mut expected, mut told) = (None, None);
         in_turns(round, self.timed.len(), |timed| {
             book.clone_from(&self.grown.words);
             let mut answers = vec![u32::MAX; ANSWER_WORDS * batch.len()];
+            let mut splits = None;
             let time = time(batch.len(), || match self.timed[timed] {
                 Timed::Calls(perform) => {
                     for (call, answer) in batch.iter().zip(answers.chunks_mut(ANSWER_WORDS)) {
                         let reply = perform(black_box(book), *black_box(call));
                         answer.copy_from_slice(&answer_words(reply));
+                        if let Ok(Answer::Splits(more)) = reply {
+                            *splits.get_or_insert(0) += more;
+                        }
                     }
                 }
                 Timed::Replay => {
@@ -231,7 +233,9 @@ impl<'a> Work<'a> {
                     left.clone_from(book);
                     answers.clone()
                 });
-                let is_alike = answers == *expected && book == left;
+                // A replay tells no splits.
+                let are_alike = splits.is_none_or(|splits| *told.get_or_insert(splits) == splits);
+                let is_alike = are_alike && answers == *expected && book == left;
                 assert!(is_alike, "the candidates differ");
             }
             time
@@ -253,26 +257,13 @@ fn measure(works: &[&Work], rounds: usize) -> Vec<Times> {
     times.into_iter().map(Times::new).collect()
 }
 
-/// A table that is still to be measured: title, head, form, and the name, the work and the targets of each row.
-type Plan<'a> = (
-    String,
-    &'static str,
-    &'static Form,
-    Vec<(String, Work<'a>, Targets)>,
-);
-
 /// The rows of all tables take turns, so that each is spread over the whole run.
-fn measured(plans: Vec<Plan>, rounds: usize) -> Vec<Table> {
-    let works = plans
-        .iter()
-        .flat_map(|(.., rows)| rows.iter().map(|(_, work, _)| work));
-    let mut times = measure(&works.collect::<Vec<_>>(), rounds).into_iter();
-    let table = |(title, head, form, rows): Plan| {
-        let rows = rows.into_iter().zip(&mut times);
-        let rows = rows.map(|((name, _, targets), times)| Row(name, targets, times));
-        Table::new(title, head, form, rows.collect())
-    };
-    plans.into_iter().map(table).collect()
+fn measured(plans: Vec<Table<Work>>, rounds: usize) -> Vec<Table> {
+    let works = plans.iter().flat_map(|plan| &plan.rows);
+    let works: Vec<&Work> = works.map(|(.., work)| work).collect();
+    let mut times = measure(&works, rounds).into_iter();
+    let timed = plans.into_iter().map(|plan| plan.timed(&mut times));
+    timed.collect()
 }
 
 /// Measures all calls, and fewer days, which have as many calls as many batches.
@@ -281,66 +272,58 @@ pub fn run(rounds: usize, days: usize) -> Vec<Table> {
     let sites = [SITE, SITE_OF_EIGHT, [10, 64, 16, 1]].map(Grown::new);
     let by_slots = [64, 128, 256, 441, 1024].map(|n| Grown::new([k, n, m, g]));
     let by_levels = [8, 12, 16, 20, 24].map(|m| Grown::new([k, n, m, g]));
-    let mut plans = vec![
-        every_kind("Site shape", &sites[0], |targets| targets),
-        every_kind("Site shape with eight grades", &sites[1], |_| &[]),
-        every_kind("Small shape", &sites[2], |_| &[]),
+    let plans = vec![
+        every_kind("Site shape", &sites[0]),
+        every_kind("Site shape with eight grades", &sites[1]),
+        every_kind("Small shape", &sites[2]),
+        growth("n", "slots", &by_slots),
+        growth("M", "levels", &by_levels),
+        grounds(&sites[0]),
     ];
-    plans.push(growth("n", "slots", &by_slots));
-    plans.push(growth("M", "levels", &by_levels));
-    plans.push(grounds(&sites[0]));
     eprintln!("measuring {rounds} rounds and {days} days");
     let mut tables = measured(plans, rounds);
     tables.extend(measured(vec![day(&sites[0])], days));
     tables
 }
 
-fn every_kind<'a>(name: &str, grown: &'a Grown, targets: fn(Targets) -> Targets) -> Plan<'a> {
+fn every_kind<'a>(name: &str, grown: &'a Grown) -> Table<Work<'a>> {
     let [k, n, m, g] = grown.shape.numbers();
     let (words, filled) = (thousands(grown.shape.block_length()), filled(grown));
-    let rows = KINDS
-        .map(|(name, kind, of_site)| (name.to_string(), Work::new(kind, grown), targets(of_site)));
     let shape = format!("({k}, {n}, {m}, {g}): {words} words in a block, {filled}");
-    (
-        format!("{name} {shape}. Microseconds"),
-        "call",
-        &CALLS,
-        rows.into(),
-    )
+    let rows = KINDS.map(|(name, kind, of_site)| {
+        let targets = if [k, n, m, g] == SITE { of_site } else { &[] };
+        (name.to_string(), targets, Work::new(kind, grown))
+    });
+    let title = format!("{name} {shape}. Microseconds");
+    Table::new(title, "call", &CALLS, rows.into())
 }
 
-fn growth<'a>(number: &str, head: &'static str, books: &'a [Grown]) -> Plan<'a> {
+fn growth<'a>(number: &str, head: &'static str, books: &'a [Grown]) -> Table<Work<'a>> {
     let rows = books.iter().map(|grown| {
         let (n, m, filled) = (grown.shape.n(), grown.shape.m(), filled(grown));
         let name = format!("n = {n}, M = {m}, {filled}");
-        (name, Work::new(Kind::Delivery(Some(1)), grown), &[][..])
+        (name, &[][..], Work::new(Kind::Delivery(Some(1)), grown))
     });
     let title = format!("Delivery of 1 decilitre, growing with {number}, shape (20, n, M, 1)");
-    (title + ". Microseconds", head, &CALLS, rows.collect())
+    Table::new(title + ". Microseconds", head, &CALLS, rows.collect())
 }
 
-fn grounds(grown: &Grown) -> Plan<'_> {
+fn grounds(grown: &Grown) -> Table<Work<'_>> {
+    let timed = &QUESTION_AND_GROUND;
     let rows = KINDS[2..5].iter().map(|&(name, kind, _)| {
-        let timed = &QUESTION_AND_GROUND;
-        (
-            name.to_string(),
-            Work { kind, grown, timed },
-            &[(0, 1.05)][..],
-        )
+        let work = Work { kind, grown, timed };
+        (name.to_string(), NEAR, work)
     });
     let title = "A question and its ground on the site shape. Microseconds".to_string();
-    (title, "call", &GROUNDS, rows.collect())
+    Table::new(title, "call", &GROUNDS, rows.collect())
 }
 
-fn day(grown: &Grown) -> Plan<'_> {
+fn day(grown: &Grown) -> Table<Work<'_>> {
     let (kind, timed) = (Kind::Day, &CALLS_AND_REPLAY);
-    let row = (
-        "replayed record".to_string(),
-        Work { kind, grown, timed },
-        &[(0, 1.05)][..],
-    );
+    let work = Work { kind, grown, timed };
+    let row = ("replayed record".to_string(), NEAR, work);
     let title = format!("A day of {RECORDS} records on the site shape. Microseconds for a record");
-    (title, "", &REPLAYS, vec![row])
+    Table::new(title, "", &REPLAYS, vec![row])
 }
 
 /// How many levels of the first grade have no free slot.
@@ -353,10 +336,8 @@ fn filled(grown: &Grown) -> String {
 #[test]
 fn candidates_and_replays_agree_and_grounds_have_the_sums_of_their_questions() {
     let grown = &Grown::new([12, 64, 24, 2]);
-    let mut works: Vec<Work> = KINDS.map(|(_, kind, _)| Work::new(kind, grown)).into();
-    let plans = [grounds(grown), day(grown)].map(|(.., rows)| rows);
-    works.extend(plans.into_iter().flatten().map(|(_, work, _)| work));
-    for times in measure(&works.iter().collect::<Vec<_>>(), 1) {
-        assert!(times.median_of(1) > Some(0.0));
+    let plans = vec![every_kind("", grown), grounds(grown), day(grown)];
+    for (name, _, times) in measured(plans, 1).iter().flat_map(|table| &table.rows) {
+        assert!(times.median_of(1) > Some(0.0), "{name}");
     }
 }

@@ -16,14 +16,12 @@ pub const DELIVERIES: u64 = 20_000;
 pub const ARRIVALS_PER_CLOCK: u32 = 16;
 const ACCEPTED: &str = "the book takes the load";
 
-/// How deliveries of a shape come.
 pub struct Load {
     shape: Shape,
     random: Random,
 }
 
 impl Load {
-    /// The load of a shape; equal seeds give equal loads.
     pub fn new(shape: Shape, seed: u64) -> Load {
         let random = Random::new(seed);
         Load { shape, random }
@@ -46,7 +44,6 @@ impl Load {
         }
     }
 
-    /// The mean volume.
     fn mean(&self) -> u64 {
         (self.most() / DELIVERIES).max(1)
     }
@@ -119,10 +116,8 @@ fn grown_books_are_sound_and_nearly_full() {
             assert!(reference::calls::query(&grown.words, grade, 1 << k).is_ok());
             let block = &grown.words[grown.shape.block(grade)];
             let parts = [0, 1].map(|parity| u64::from(block[parity]) * 100 / (1 << m));
-            assert!(
-                (75..=100).contains(&parts[0]) && (50..80).contains(&parts[1]),
-                "{parts:?}"
-            );
+            let is_full = (75..=100).contains(&parts[0]) && (50..80).contains(&parts[1]);
+            assert!(is_full, "{parts:?}");
             let filled = grown.full_levels(grade);
             assert!(m < 10 || filled.iter().all(|full| *full >= 7), "{filled:?}");
         }

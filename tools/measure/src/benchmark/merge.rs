@@ -5,9 +5,10 @@
 use std::hint::black_box;
 
 use draw::random::Random;
-use reference::trace::{lay_out, pairs_end, Record, CLOCK, DELIVERY, QUERY, RECORD_WORDS};
+use reference::merge::Named;
+use reference::trace::{lay_out, pairs_end, CLOCK, DELIVERY, QUERY, RECORD_WORDS};
 
-use super::table::{thousands, Form, Row, Table};
+use super::table::{thousands, Form, Table};
 use super::timing::{in_turns, time, Times};
 
 /// Records of each day.
@@ -27,13 +28,10 @@ pub fn run(rounds: usize) -> Table {
     eprintln!("merging {rounds} times");
     let mut pairs = [RECORDS, 2 * RECORDS].map(Pair::new);
     let times = (0..=rounds).map(|round| measure(&mut pairs, round));
-    let row = Row(
-        "merge of two days".to_string(),
-        &[(0, 20.0), (1, 2.2)],
-        Times::new(times),
-    );
+    let (name, targets) = ("merge of two days".to_string(), &[(0, 20.0), (1, 2.2)][..]);
     let records = thousands(RECORDS);
     let title = format!("Two days of {records} records each, merged. Nanoseconds for a record");
+    let row = (name, targets, Times::new(times));
     Table::new(title, "", &FORM, vec![row])
 }
 
@@ -53,7 +51,9 @@ fn measure(pairs: &mut [Pair; 2], round: usize) -> Vec<f64> {
     times
 }
 
-/// Two days, each the only one of a trace.
+const IN_ORDER: &str = "two days in order and an output for them";
+
+/// Two days, each the only one of a trace, and their merged day.
 struct Pair {
     traces: [Vec<u32>; 2],
     expected: Vec<u32>,
@@ -65,21 +65,22 @@ impl Pair {
     /// they have one merged day.
     fn new(records: usize) -> Pair {
         let random = &mut Random::new(1);
-        let days = [0, 1].map(|clock| day(random, clock, records));
-        let mut merged = days.concat();
-        merged.sort_by_key(|(clock, _)| *clock);
-        let words = |day: &[Clocked]| day.iter().flat_map(|(_, record)| *record).collect();
+        let traces = [0, 1].map(|clock| lay_out(&[day(random, clock, records)]));
+        let output = vec![0; 2 * RECORD_WORDS * records];
+        let (mut expected, day) = (output.clone(), 0);
+        let days = traces.each_ref().map(|trace| Named { trace, day });
+        reference::merge::merge(days, &mut expected).expect(IN_ORDER);
         Pair {
-            traces: days.map(|day| lay_out::<Vec<u32>>(&[words(&day)])),
-            expected: words(&merged),
-            output: vec![0; 2 * RECORD_WORDS * records],
+            traces,
+            expected,
+            output,
         }
     }
 
     fn merge(&mut self) {
         let [first, second] = black_box(&self.traces);
         let merged = litres::merge(first, 0, second, 0, black_box(&mut self.output));
-        merged.expect("two days in order and an output for them");
+        merged.expect(IN_ORDER);
     }
 
     fn copy(&mut self) {
@@ -91,37 +92,28 @@ impl Pair {
     }
 }
 
-/// A record and its clock.
-type Clocked = (u32, Record);
-
 /// A day from this clock on: after each clock up to seven deliveries and questions, one of which in ten asks,
 /// and how many is not to be foreseen. Its clocks stay even or odd.
-fn day(random: &mut Random, mut clock: u32, records: usize) -> Vec<Clocked> {
+fn day(random: &mut Random, mut clock: u32, records: usize) -> Vec<u32> {
     let mut day = Vec::new();
     while day.len() < records {
-        day.push((clock, [CLOCK, clock, 0, 0]));
+        day.push([CLOCK, clock, 0, 0]);
         for _ in 0..random.below(8) {
-            let record = match random.one_in(10) {
+            day.push(match random.one_in(10) {
                 true => [QUERY, 0, random.between(0, 3_600), 0],
                 false => [DELIVERY, 0, clock, random.between(1, 600)],
-            };
-            day.push((clock, record));
+            });
         }
         clock += 2 * random.between(1, 30);
     }
     day.truncate(records);
-    day
+    day.concat()
 }
 
-/// What is expected is a merged day, and the merge is compared with it.
+/// A measurement compares the merge with the merged day.
 #[test]
 fn merges_are_right() {
     let mut pairs = [300, 600].map(Pair::new);
-    let days = pairs[0]
-        .traces
-        .each_ref()
-        .map(|trace| &trace[pairs_end(1)..]);
-    assert!(days.iter().all(|day| day.len() == 1_200));
-    assert!(reference::merge::sources(days, &pairs[0].expected).is_some());
+    assert!(pairs[0].traces.iter().all(|trace| trace.len() == 1_203));
     assert!(measure(&mut pairs, 0).iter().all(|time| *time > 0.0));
 }

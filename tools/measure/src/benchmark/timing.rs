@@ -3,10 +3,7 @@
 use std::time::Instant;
 
 /// Round by round the times of all that is timed side by side.
-#[derive(Default)]
-pub struct Times {
-    rounds: Vec<Vec<f64>>,
-}
+pub struct Times(Vec<Vec<f64>>);
 
 impl Times {
     /// Of these rounds the first only warms up, and of the others only the fastest tenth counts: in the rest
@@ -17,7 +14,7 @@ impl Times {
         let whole = |round: &Vec<f64>| round.iter().sum::<f64>();
         rounds.sort_by(|one, other| whole(one).total_cmp(&whole(other)));
         rounds.truncate(rounds.len().div_ceil(10));
-        Times { rounds }
+        Times(rounds)
     }
 
     /// The median time of one; nothing where it is not timed.
@@ -31,7 +28,7 @@ impl Times {
     }
 
     fn median(&self, value: impl Fn(&[f64]) -> Option<f64>) -> Option<f64> {
-        let values = self.rounds.iter().map(|round| value(round));
+        let values = self.0.iter().map(|round| value(round));
         let mut values: Vec<f64> = values.collect::<Option<_>>()?;
         values.sort_by(f64::total_cmp);
         values.get(values.len() / 2).copied()

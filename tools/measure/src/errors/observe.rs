@@ -15,13 +15,11 @@ pub const CAPACITY: u64 = 1 << SITE[2];
 /// The proved bound is this part of the true sum: 2(k+1) to n-k-1.
 pub const BOUND: (u64, u64) = (2 * (SITE[0] as u64 + 1), (SITE[1] - SITE[0] - 1) as u64);
 
-/// One answered question.
+/// One answered question, the ledger's sum and the book's.
 #[derive(Clone, Copy, Debug, PartialEq, Eq)]
 pub struct Observation {
     pub window: u32,
-    /// The ledger's sum.
     pub truth: u64,
-    /// The book's sum.
     pub answer: u64,
     /// Whether it is proved to be exact (document 02, request Seven).
     pub proved_exact: bool,
@@ -63,9 +61,10 @@ pub struct Observed {
 
 impl Observed {
     /// The answer with the greatest relative error.
-    pub fn worst(&self) -> Option<Observation> {
+    pub fn worst(&self) -> Observation {
         let observations = self.observations.iter().copied();
-        observations.max_by(|a, b| a.relative_error().total_cmp(&b.relative_error()))
+        let worst = observations.max_by(|a, b| a.relative_error().total_cmp(&b.relative_error()));
+        worst.expect("every order asks")
     }
 
     /// The first answer of which something proved does not hold, and what.

@@ -52,78 +52,70 @@ pub fn question(window: u32) -> Call {
 /// Questions over windows from a second to an interval, evenly on a log scale, and over such as open at
 /// one of the given ticks or next to it.
 fn questions(random: &mut Random, clock: u32, ticks: &[u32]) -> Vec<Call> {
-    const SPREAD: u32 = 64;
-    const AIMED: u32 = 96;
-    let spread = (0..=SPREAD).map(|part| {
-        let power = f64::from(part) / f64::from(SPREAD);
+    let spread = (0..=64).map(|part| {
+        let power = f64::from(part) / 64.0;
         f64::from(TICKS).powf(power).round() as u32
     });
-    let aimed = (0..AIMED).map(|_| {
+    let aimed = (0..96).map(|_| {
         let opening = (random.pick(ticks) + random.between(0, 1)).min(clock);
-        let window = window_from(clock, opening).expect("no tick after the clock");
-        window.min(TICKS)
+        let window = window_from(clock, opening);
+        window.expect("no tick after the clock").min(TICKS)
     });
     spread.chain(aimed).map(question).collect()
 }
 
 const HOUR: u32 = 3600;
-/// A little less than two intervals.
-const HOURS: u32 = 24 * 24;
-/// Most stamps that a question's opening is drawn from.
-const RECENT: usize = 4000;
 /// Cars by hour of the day.
 const CARS: [u32; 24] = [
     3, 2, 2, 2, 4, 12, 35, 50, 45, 28, 22, 24, 30, 26, 22, 26, 40, 55, 48, 30, 18, 12, 8, 5,
 ];
 
-/// When a delivery is reported, its stamp and its volume.
-type Report = (u32, u32, u32);
+/// Draws two numbers for one.
+type Draw = fn(&mut Random, u32) -> (u32, u32);
 
 /// Most reports come within seconds, some within half an hour, a few hours later.
 fn prompt(seed: u64) -> Order {
-    let mut random = Random::new(seed);
-    let mut reports = cars(&mut random);
-    for (arrival, ..) in &mut reports {
-        *arrival += match random.below(100) {
+    forecourt("forecourt, some hours late", seed, |random, stamp| {
+        let delay = match random.below(100) {
             0..=2 => random.between(HOUR, 12 * HOUR),
             3..=9 => random.between(60, HOUR / 2),
             _ => random.between(0, 20),
         };
-    }
-    reports.sort_by_key(|(arrival, ..)| *arrival);
-    arriving("forecourt, some hours late", &mut random, &reports)
+        (stamp + delay, 0)
+    })
 }
 
 /// Each hour's reports arrive together, the newest first.
 fn hourly(seed: u64) -> Order {
-    let mut random = Random::new(seed);
-    let mut reports = cars(&mut random);
-    for (arrival, stamp, _) in &mut reports {
-        *arrival = (*stamp / HOUR + 1) * HOUR;
-    }
-    reports.sort_by_key(|(arrival, stamp, _)| (*arrival, u32::MAX - stamp));
-    arriving("forecourt, sent each hour", &mut random, &reports)
+    forecourt("forecourt, sent each hour", seed, |_, stamp| {
+        ((stamp / HOUR + 1) * HOUR, u32::MAX - stamp)
+    })
 }
 
-/// Each is reported at once.
-fn cars(random: &mut Random) -> Vec<Report> {
-    let mut reports = Vec::new();
-    for (hour, usual) in (0..HOURS).zip(CARS.iter().cycle()) {
+/// The stamps and volumes of a little less than two intervals.
+fn cars(random: &mut Random) -> Vec<(u32, u32)> {
+    let mut cars = Vec::new();
+    for (hour, usual) in (0..24 * 24).zip(CARS.iter().cycle()) {
         for _ in 0..random.between(usual / 2, usual * 3 / 2) {
             let stamp = hour * HOUR + random.between(0, HOUR - 1);
-            reports.push((stamp, stamp, random.between(40, 900)));
+            cars.push((stamp, random.between(40, 900)));
         }
     }
-    reports
+    cars
 }
 
-/// The clock moves with the arrivals; questions come every six hours.
-fn arriving(name: &'static str, random: &mut Random, reports: &[Report]) -> Order {
+/// Each car is reported at the tick that is drawn for its stamp, those of one tick in the order of the other
+/// number. The clock moves with the reports; questions come every six hours.
+fn forecourt(name: &'static str, seed: u64, draw: Draw) -> Order {
+    let random = &mut Random::new(seed);
+    let cars = cars(random).into_iter();
+    let mut reports: Vec<_> = cars.map(|car| (draw(random, car.0), car)).collect();
+    reports.sort_by_key(|(arrival, _)| *arrival);
     let (mut calls, mut stamps) = (Vec::new(), Vec::new());
     let (mut clock, mut next) = (0, 6 * HOUR);
-    for &(arrival, stamp, volume) in reports {
+    for ((arrival, _), (stamp, volume)) in reports {
         if arrival > next && !stamps.is_empty() {
-            let recent = &stamps[stamps.len().saturating_sub(RECENT)..];
+            let recent = &stamps[stamps.len().saturating_sub(4000)..];
             calls.extend(questions(random, clock, recent));
             next += 6 * HOUR;
         }
@@ -182,13 +174,12 @@ fn heavy_tick(seed: u64) -> Order {
     })
 }
 
-/// Much in the first minutes of the interval and little in the last ones, by turns.
+/// Much in the first half hour of the interval and little in the last one, by turns.
 fn extremes(seed: u64) -> Order {
-    const MINUTES: u32 = 1800;
     let name = "much at the start, little at the end";
     at_the_end(name, PATTERN, seed, |random, number| match number % 2 {
-        0 => (START + random.between(0, MINUTES), 2600),
-        _ => (END - random.between(0, MINUTES), 1),
+        0 => (START + random.between(0, HOUR / 2), 2600),
+        _ => (END - random.between(0, HOUR / 2), 1),
     })
 }
 
@@ -198,12 +189,7 @@ fn volume(random: &mut Random) -> u32 {
 
 /// All deliveries while the clock stands at the interval's end, as long as they fit; each has the stamp
 /// and the volume that are drawn for its number.
-fn at_the_end(
-    name: &'static str,
-    kind: Kind,
-    seed: u64,
-    draw: fn(&mut Random, u32) -> (u32, u32),
-) -> Order {
+fn at_the_end(name: &'static str, kind: Kind, seed: u64, draw: Draw) -> Order {
     let (mut random, mut asking) = (Random::new(seed), Random::new(!seed));
     let mut calls = vec![Call::Clock { clock: END }];
     let (mut stamps, mut total) = (Vec::new(), 0);

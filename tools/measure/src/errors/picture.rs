@@ -9,13 +9,12 @@ use super::observe::{Observed, BOUND};
 use super::orders::{Kind, Order, KINDS};
 use super::table::{percent, Share};
 
-const COLUMNS: usize = 3;
+/// For three rows of three panels.
+const SIZE: (u32, u32) = (1254, 1110);
 /// The corner of the first panel.
-const ORIGIN: (f64, f64) = (96.0, 186.0);
+const ORIGIN: (usize, usize) = (96, 186);
 /// From one panel's corner to the next one's: the panel and its labels beside, above and below.
-const STRIDE: (f64, f64) = (400.0, 322.0);
-/// What is left free to the right of the last panel and below the labels of the last row.
-const MARGIN: (f64, f64) = (48.0, 50.0);
+const STRIDE: (usize, usize) = (400, 322);
 const WIDTH: f64 = 310.0;
 const HEIGHT: f64 = 190.0;
 /// The rows below the log scale, where exact answers lie, from their tops: those without a proof, then
@@ -36,17 +35,14 @@ const PROVED_COLOUR: &str = "#d4d4d4";
 
 /// The whole picture as SVG.
 pub fn svg(observed: &[(Order, Observed)]) -> String {
-    let rows = observed.len().div_ceil(COLUMNS);
-    let right = ORIGIN.0 + (COLUMNS - 1) as f64 * STRIDE.0 + WIDTH;
-    let bottom = ORIGIN.1 + rows.saturating_sub(1) as f64 * STRIDE.1 + PANEL;
-    let (width, height) = (right + MARGIN.0, bottom + MARGIN.1);
     let panels = observed.iter().enumerate().map(|(number, (order, seen))| {
-        let x = ORIGIN.0 + (number % COLUMNS) as f64 * STRIDE.0;
-        let y = ORIGIN.1 + (number / COLUMNS) as f64 * STRIDE.1;
+        let (column, row) = (number % 3, number / 3);
+        let (x, y) = (ORIGIN.0 + column * STRIDE.0, ORIGIN.1 + row * STRIDE.1);
         let (axes, panel) = (axes(), panel(order, seen));
         format!("<g transform=\"translate({x} {y})\">\n{axes}{panel}</g>\n")
     });
     let (heading, legend, panels) = (heading(observed), legend(), panels.collect::<String>());
+    let (width, height) = SIZE;
     format!(
         "<svg xmlns=\"http://www.w3.org/2000/svg\" viewBox=\"0 0 {width} {height}\" \
          font-family=\"sans-serif\" font-size=\"11\" fill=\"#222\">\n\
@@ -153,18 +149,15 @@ fn label_beside(y: f64, text: &str) -> String {
 
 fn panel(order: &Order, observed: &Observed) -> String {
     let (name, colour, bound) = (order.name, order.kind.1, error_y(bound()));
-    let dots = dots(observed);
-    let (mut circle, mut figures) = (String::new(), "no answers".to_string());
-    if let Some(worst) = observed.worst() {
-        let error = worst.relative_error();
-        let [exact, proved] = Share::of([observed]).in_percent();
-        let greatest = percent(error);
-        figures = format!("greatest error {greatest}, {exact} exact, {proved} proved exact");
-        if error > 0.0 {
-            let (x, y) = (sum_x(worst.truth as f64), error_y(error));
-            circle = format!("<circle cx=\"{x:.1}\" cy=\"{y:.1}\" {WORST}/>\n");
-        }
-    }
+    let (dots, worst) = (dots(observed), observed.worst());
+    let error = worst.relative_error();
+    let (x, y, greatest) = (sum_x(worst.truth as f64), error_y(error), percent(error));
+    let circle = match error > 0.0 {
+        true => format!("<circle cx=\"{x:.1}\" cy=\"{y:.1}\" {WORST}/>\n"),
+        false => String::new(),
+    };
+    let [exact, proved] = Share::of([observed]).in_percent();
+    let figures = format!("greatest error {greatest}, {exact} exact, {proved} proved exact");
     format!(
         "<path d=\"{dots}\" stroke=\"{colour}\" stroke-width=\"2.4\" \
          stroke-linecap=\"round\" fill=\"none\"/>\n\
@@ -176,14 +169,14 @@ fn panel(order: &Order, observed: &Observed) -> String {
 
 /// One mark for each pixel that some answer lies on.
 fn dots(observed: &Observed) -> String {
-    let pixel = |x: f64, y: f64| (x.round() as i64, y.round() as i64);
     let pixels = observed.telling().map(|observation| {
         let y = match (observation.is_exact(), observation.proved_exact) {
             (false, _) => error_y(observation.relative_error()),
             (true, false) => EXACT_ROW + ROW / 2.0,
             (true, true) => PROVED_ROW + ROW / 2.0,
         };
-        pixel(sum_x(observation.truth as f64), y)
+        let x = sum_x(observation.truth as f64);
+        (x.round() as i64, y.round() as i64)
     });
     let pixels: BTreeSet<(i64, i64)> = pixels.collect();
     pixels.iter().map(|(x, y)| format!("M{x} {y}h0")).collect()

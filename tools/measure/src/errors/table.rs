@@ -55,17 +55,16 @@ pub fn head() -> String {
 
 /// The row of an order.
 pub fn row(order: &Order, observed: &Observed) -> String {
-    let counts = Share::of([observed]).counts();
+    let (counts, worst) = (Share::of([observed]).counts(), observed.worst());
     let start = format!("{:36} {:>10} {counts}", order.name, observed.deliveries);
-    let end = observed.worst().map(|worst| {
-        let error = percent(worst.relative_error());
-        format!(" {error:>15}  {} s, {} dl", worst.window, worst.truth)
-    });
-    start + &end.unwrap_or_default()
+    let error = percent(worst.relative_error());
+    format!(
+        "{start} {error:>15}  {} s, {} dl",
+        worst.window, worst.truth
+    )
 }
 
-/// The shares of each kind of order and of all orders, and how many of the proved answers have a window above
-/// n.
+/// The shares of each kind of order and of all orders.
 pub fn shares(all: &[(Order, Observed)]) -> String {
     let row = |name: &str, share: &Share| format!("{name:47} {}\n", share.counts());
     let of_kind = KINDS.map(|kind| {

@@ -9,7 +9,6 @@ use reference::layout;
 use reference::shape::Shape;
 use std::array::from_fn;
 
-/// The calls with a check that runs through each level.
 pub struct Fast;
 
 impl Calls for Fast {
@@ -85,39 +84,30 @@ fn exact(buckets: &[Slot], bits: u32, wrapped: u32) -> u64 {
     }
 }
 
-/// The sum of the weights.
 fn added(buckets: &[Slot]) -> u64 {
     buckets.iter().map(|slot| u64::from(slot[2])).sum()
 }
 
-/// What a run through level 0 collects.
-struct Ticks {
+/// What a run through level 0 collects, in all or lane by lane.
+#[derive(Default)]
+struct Ticks<T> {
     /// Bits of what lies between an offset and the least that it may be: below 2^k, unless it is too
     /// small; 1,024 such gaps do not wrap.
-    gaps: u32,
+    gaps: T,
     /// Bits in which lengths differ from 1.
-    lengths: u32,
+    lengths: T,
     /// Bits of the weights less 1; at least 2^31 where one is 0.
-    weights: u32,
+    weights: T,
     /// The sum of the weights, modulo 2^32.
-    sum: u32,
+    sum: T,
 }
 
-/// The same, lane by lane.
-#[derive(Default)]
-struct TickLanes {
-    gaps: Lanes,
-    lengths: Lanes,
-    weights: Lanes,
-    sums: Lanes,
-}
-
-impl Ticks {
+impl Ticks<u32> {
     #[inline(never)]
-    fn run(first: u32, buckets: &[Slot]) -> Ticks {
+    fn run(first: u32, buckets: &[Slot]) -> Ticks<u32> {
         let words = buckets.as_flattened();
         let turns = buckets.len().saturating_sub(1) / TURN;
-        let mut lanes = TickLanes::default();
+        let mut lanes = Ticks::<Lanes>::default();
         let mut gaps = 0;
         for turn in 0..turns {
             let from = TURN_WORDS * turn;
@@ -132,7 +122,7 @@ impl Ticks {
             gaps: gaps | joined(lanes.gaps),
             lengths: joined(lanes.lengths),
             weights: joined(lanes.weights),
-            sum: added_up(lanes.sums),
+            sum: added_up(lanes.sum),
         };
         if let Some(slot) = buckets.first() {
             seen.gaps |= slot[0].wrapping_sub(first);
@@ -150,7 +140,7 @@ impl Ticks {
     }
 }
 
-impl TickLanes {
+impl Ticks<Lanes> {
     #[inline(always)]
     fn turn(&mut self, window: &Window) {
         let columns = columns(window);
@@ -159,7 +149,7 @@ impl TickLanes {
                 let [offset, length, weight] = bucket(&columns, slot, lane);
                 self.lengths[lane] |= length ^ 1;
                 self.weights[lane] |= weight.wrapping_sub(1);
-                self.sums[lane] = self.sums[lane].wrapping_add(weight);
+                self.sum[lane] = self.sum[lane].wrapping_add(weight);
                 if slot + 1 < ROW {
                     self.gaps[lane] |= between(offset, bucket(&columns, slot + 1, lane)[0]);
                 }
@@ -292,7 +282,6 @@ fn span(offset: u32, length: u32, extra: u32, above: u32) -> u32 {
 /// is compared in its lane, the last slot of a row and the first of the next as single words.
 const LANES: usize = 4;
 
-/// A word for each row.
 type Lanes = [u32; LANES];
 
 /// The slots of a row and of a turn.
@@ -320,7 +309,6 @@ fn bucket(columns: &[Lanes; ROW_WORDS], slot: usize, lane: usize) -> Slot {
     from_fn(|word| columns[layout::SLOT_WORDS * slot + word][lane])
 }
 
-/// The bits of all lanes.
 fn joined(lanes: Lanes) -> u32 {
     lanes.iter().fold(0, |all, lane| all | lane)
 }

@@ -8,26 +8,9 @@ use reference::shape::Shape;
 /// A bucket is split at most so often by one volume: its length is at most 2^20.
 const SPLITS_MAX: usize = Shape::K_MAX as usize;
 
-/// What an insertion makes of a level, but for its slots.
-struct Inserted {
-    /// The bucket count.
-    count: usize,
-    /// The first kept offset.
-    first: u32,
-    /// How many buckets were split.
-    splits: u32,
-}
-
-impl Inserted {
-    /// Without a split.
-    fn unsplit(count: usize, first: u32) -> Inserted {
-        Inserted {
-            count,
-            first,
-            splits: 0,
-        }
-    }
-}
+/// What an insertion makes of a level, but for its slots: the bucket count, the first kept offset, and how
+/// many buckets were split.
+type Inserted = (usize, u32, u32);
 
 /// Inserts a volume into exactly the words of the level of this index (document 01's 'pour'); how many
 /// buckets it splits.
@@ -38,14 +21,13 @@ pub fn insert(level: &mut [u32], index: u32, offset: u32, volume: u32) -> u32 {
     if offset < first {
         return 0;
     }
-    let inserted = if index == 0 {
+    let (count, first, splits) = if index == 0 {
         at_tick(slots, count, first, offset, volume)
     } else {
-        in_span(slots, count, first, index, offset, volume)
+        in_span(slots, count, index, offset, volume)
     };
-    head[0] = inserted.count as u32;
-    head[1] = inserted.first;
-    inserted.splits
+    head.copy_from_slice(&[count as u32, first]);
+    splits
 }
 
 /// How many slots have an offset below the bound. Most stamps are recent, so it is looked for from
@@ -65,40 +47,34 @@ fn at_tick(slots: &mut [Slot], count: usize, first: u32, offset: u32, volume: u3
     let at = below(&slots[..count], offset);
     if at < count && slots[at][0] == offset {
         slots[at][2] += volume;
-        return Inserted::unsplit(count, first);
+        return (count, first, 0);
     }
     let made = [offset, 1, volume];
     if count < slots.len() {
         slots.copy_within(at..count, at + 1);
         slots[at] = made;
-        Inserted::unsplit(count + 1, first)
+        (count + 1, first, 0)
     } else if at == 0 {
         // The bucket that the first decilitre makes is evicted; the rest is below the first offset.
-        Inserted::unsplit(count, offset + 1)
+        (count, offset + 1, 0)
     } else {
         let first = slots[0][0] + 1;
         slots.copy_within(1..at, 0);
         slots[at - 1] = made;
-        Inserted::unsplit(count, first)
+        (count, first, 0)
     }
 }
 
-/// Level i from 1 on: the bucket that spans the offset takes the volume, or is split.
-fn in_span(
-    slots: &mut [Slot],
-    count: usize,
-    first: u32,
-    index: u32,
-    offset: u32,
-    volume: u32,
-) -> Inserted {
+/// Level i from 1 on: the bucket that spans the offset takes the volume, or is split. The first bucket begins
+/// at the first kept offset.
+fn in_span(slots: &mut [Slot], count: usize, index: u32, offset: u32, volume: u32) -> Inserted {
     let at = below(&slots[..count], offset + 1) - 1;
     let [_, length, weight] = slots[at];
     if length > 1 && volume >= (2 << index) - weight {
-        return split(slots, count, first, index, offset, volume, at);
+        return split(slots, count, index, offset, volume, at);
     }
     slots[at][2] += volume;
-    Inserted::unsplit(count, first)
+    (count, slots[0][0], 0)
 }
 
 /// Fills the bucket of this slot, splits it, and goes on in the half that spans the offset.
@@ -106,7 +82,6 @@ fn in_span(
 fn split(
     slots: &mut [Slot],
     count: usize,
-    first: u32,
     index: u32,
     offset: u32,
     volume: u32,
@@ -155,15 +130,6 @@ fn split(
         slots[to] = [start, length, weight + rest];
     }
     slots[at - gone..to].copy_from_slice(before);
-    let first = if evicted > 0 || !kept {
-        slots[0][0]
-    } else {
-        first
-    };
-    Inserted {
-        count: count_after,
-        first,
-        // Each split left one half before the bucket or after it.
-        splits: (befores + afters) as u32,
-    }
+    // Each split left one half before the bucket or after it.
+    (count_after, slots[0][0], (befores + afters) as u32)
 }

@@ -3,7 +3,6 @@
 use super::{Calls, Slot};
 use reference::shape::Shape;
 
-/// The calls with a check that leaves at the first fault.
 pub struct Plain;
 
 impl Calls for Plain {

@@ -79,16 +79,8 @@ fn both((shape, words): &(Shape, Vec<u32>)) -> bool {
 #[test]
 fn every_slot_and_every_bit_of_a_level() {
     let mut verdicts = [0; 2];
-    let counts = [
-        (12, 5),
-        (12, 16),
-        (12, 17),
-        (12, 33),
-        (12, 53),
-        (12, 62),
-        (4, 16),
-        (6, 64),
-    ];
+    let counts = [5, 16, 17, 33, 53, 62].map(|count| (12, count));
+    let counts = counts.iter().chain(&[(4, 16), (6, 64)]);
     let levels = [
         (0, 1, 9),
         (0, 1, 99),
@@ -97,7 +89,7 @@ fn every_slot_and_every_bit_of_a_level() {
         (3, 4, 14),
         (3, 4, 999),
     ];
-    for ((k, count), (index, length, each)) in counts.iter().flat_map(|c| levels.map(|l| (*c, l))) {
+    for ((k, count), (index, length, each)) in counts.flat_map(|c| levels.map(|l| (*c, l))) {
         // In an interval of as many ticks as buckets nothing was evicted, so that the sum is the total.
         let (total, first) = (each * count, (1u32 << k).saturating_sub(length * count));
         let book = &mut half(k, count, total);
@@ -183,10 +175,8 @@ fn ends_that_are_right_only_modulo_two_to_the_32() {
     }
     // After some ticks spans double until an offset is 0 again, at any place of a turn or of the rest, and a
     // sound level of few or many buckets follows.
-    let (few, many): (_, Vec<_>) = (
-        vec![[0, 1 << 7]],
-        (0..1 << 7).map(|tick| [tick, 1]).collect(),
-    );
+    let few = vec![[0, 1 << 7]];
+    let many: Vec<_> = (0..1 << 7).map(|tick| [tick, 1]).collect();
     assert!(accept_spans(7, &many));
     for (power, sound) in (4..32).flat_map(|power| [(power, &few), (power, &many)]) {
         let (from, most) = (1 << power, if power == 22 { 50 } else { 12 });
@@ -212,12 +202,8 @@ fn weights_that_are_right_only_modulo_two_to_the_32() {
         ticks[0][2] -= 1;
         assert!(!accept(12, index, 0, &ticks), "{index} {bits}");
         ticks[1][2] += 1 << index;
-        let totals = [(1 << index) - 1, 1 << 12];
-        assert!(
-            totals
-                .iter()
-                .all(|total| !accept(12, index, *total, &ticks)),
-            "{index} {bits}"
-        );
+        for total in [(1 << index) - 1, 1 << 12] {
+            assert!(!accept(12, index, total, &ticks), "{index} {bits}");
+        }
     }
 }

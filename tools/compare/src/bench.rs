@@ -14,7 +14,6 @@ use reference::refusal;
 
 use crate::difference::{Difference, What};
 use crate::run::{self, Failure, Summary};
-use plan::Plan;
 
 /// Lines of a usual run.
 pub const LINES: u64 = 40_000;
@@ -23,8 +22,14 @@ pub const LINES_ONE_BY_ONE: u64 = 400;
 /// Lines of a script on average.
 pub const LINES_PER_SCRIPT: u64 = 400;
 
-/// A run of so many lines must show every kind of answer, and so many cases every case.
+/// A run of so many lines must show every kind of answer.
 const LINES_FOR_ALL: u64 = 20_000;
+/// A run that has counted so many must show every kind of unread line, every case, every call at an edge, and
+/// every question that tells a tick.
+const ODD_FOR_ALL: u64 = 1_500;
+const CASES_FOR_ALL: u64 = 60_000;
+const EDGES_FOR_ALL: u64 = 6_000;
+const TICKS_FOR_ALL: u64 = 8_000;
 /// Longest part of a line that is shown; hostile lines can be far longer.
 const SHOWN_BYTES: usize = 160;
 
@@ -32,18 +37,16 @@ const SHOWN_BYTES: usize = 160;
 /// wrote are an unsound block.
 pub fn summary() -> Summary {
     let refusals = refusal::CALLS.filter(|number| *number != refusal::BLOCK);
+    let lines = Tally::of_answers(refusals, &[UNREAD], LINES_FOR_ALL);
     Summary::new([
+        ("lines", lines),
+        ("odd lines", Tally::new(met::odd(), ODD_FOR_ALL)),
+        ("cases", Tally::new(met::all(), CASES_FOR_ALL)),
+        ("edges", Tally::new(edges::all(), EDGES_FOR_ALL)),
         (
-            "lines",
-            Tally::of_answers(refusals, &[UNREAD], LINES_FOR_ALL),
+            "ticks told",
+            Tally::new(edges::all_telling(), TICKS_FOR_ALL),
         ),
-        (
-            "unread lines",
-            Tally::new(met::WAYS.map(|(name, _)| name), 1_000),
-        ),
-        ("cases", Tally::new(met::all(), LINES_FOR_ALL)),
-        ("edges", Tally::new(edges::all(), 4_000)),
-        ("ticks told", Tally::new(edges::all_telling(), 4_000)),
     ])
 }
 
@@ -70,11 +73,6 @@ pub fn run(
     })
 }
 
-/// The numbered scripts of a usual plan.
-pub fn usual_plan() -> impl Iterator<Item = (u64, Vec<u8>)> {
-    (0..).zip(Plan::new(1, LINES, LINES / LINES_PER_SCRIPT))
-}
-
 /// The second program's output for a script.
 pub fn output(script: &[u8]) -> Vec<u8> {
     let mut output = Vec::new();
@@ -95,9 +93,11 @@ pub fn first_difference(ours: &[u8], theirs: &[u8]) -> Option<usize> {
     None
 }
 
+/// The line with its number, which counts from 1 as in an editor.
 fn told(line: usize, texts: [&[u8]; 3]) -> String {
     let [input, ours, theirs] = texts.map(|text| shown(lines(text).nth(line)));
-    format!("line {line}\ninput:   {input}\nexpected {ours}\nprogram: {theirs}")
+    let number = line + 1;
+    format!("line {number}\ninput:   {input}\nexpected {ours}\nprogram: {theirs}")
 }
 
 fn shown(line: Option<&[u8]>) -> String {

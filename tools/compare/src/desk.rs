@@ -113,11 +113,13 @@ impl<'i> Desk<'i> {
         if expected.is_err() || matches!(call, Call::Query { .. }) {
             assert!(self.ours == self.before, "the second program: {call:?}");
         }
+        let words = self.check_book(&self.before);
         let checked = if expected == found {
-            self.check_book(&self.before)
+            words
         } else {
             let told = format!("answers {}, expected {}", told(found), told(expected));
-            Err(Difference::new(What::Answer, told))
+            let words = words.map_or_else(|word| word.told, |()| "words equal".to_string());
+            Err(Difference::new(What::Answer, format!("{told}\n{words}")))
         };
         let about = || format!("call {call:?} on {lent} words");
         checked.map_err(|difference| difference.of(about()))?;
@@ -175,10 +177,9 @@ impl<'i> Desk<'i> {
         let around = around(&mut self.random, asked.trace);
         let kept = around.clone();
         let trace = &around[MARGIN..MARGIN + asked.trace.len()];
-        let outcome = self.replay(Asked { trace, ..asked }).and_then(|outcome| {
+        let outcome = self.replay(Asked { trace, ..asked }, || {
             let words = [&kept[..], &kept, read_again(&around)];
-            check_words(What::Word(Of::Trace), words, MARGIN)?;
-            Ok(outcome)
+            check_words(What::Word(Of::Trace), words, MARGIN)
         });
         let Asked {
             day, lent, room, ..
@@ -191,7 +192,12 @@ impl<'i> Desk<'i> {
         })
     }
 
-    fn replay(&mut self, asked: Asked) -> Result<Outcome, Difference> {
+    /// The same, where a trace is checked after the replay.
+    fn replay(
+        &mut self,
+        asked: Asked,
+        check_trace: impl Fn() -> Result<(), Difference>,
+    ) -> Result<Outcome, Difference> {
         check_part(self.implementation, asked)?;
         let before = Side {
             book: self.ours.clone(),
@@ -205,6 +211,7 @@ impl<'i> Desk<'i> {
         let found = self.implementation.replay(self.lent_of(&mut theirs, asked));
         check_numbers(expected.as_ref().err().copied(), found.err())?;
         self.check_side(What::Word, [&before, &ours, &theirs])?;
+        check_trace()?;
         let calls = replay::calls(asked.trace, asked.day, asked.room).unwrap_or_default();
         let mut apart = before.clone();
         let answered = self.one_by_one(self.lent_of(&mut apart, asked), &calls);

@@ -150,7 +150,8 @@ pub fn check(ledger: &Ledger, expected: Reply, answered: Answered) -> Result<(),
             if !ledger.admits_exact(grade, window, sum) =>
         {
             let stamps = ledger.different_stamps(grade, window);
-            let found = format!("= {sum} over {stamps} different stamps");
+            let n = ledger.shape().n();
+            let found = format!("= {sum} over {stamps} different stamps, n = {n}");
             Err(told(What::Inexact, &found))
         }
         _ => Ok(()),

@@ -34,7 +34,8 @@ merges   merges days of every kind, judges every number and output, and replays 
   --seed S      another seed gives other trials (1)
   --trials N    number of scripts (one for every 400 lines), books (24000), traces (24000) or merges
                 (48000)
-  --trial I     trial I alone, counted from 0, as a failed run names it
+  --trial I     trial I alone, counted from 0, as a failed run names it; a script also depends on
+                --lines and --trials
   --one-by-one  gives PROGRAM each line only once it has answered the one before
   --lines N     lines of all scripts together (40000; one by one 400)";
 
@@ -81,7 +82,7 @@ fn read(mut words: Words) -> Result<Options, String> {
     let [] = words.operands([])?;
     Ok(Options {
         task: Task::Archive(comparison),
-        is_usual: is_usual(&trials, comparison.usual),
+        is_usual: trials.are_usual(comparison.usual),
         trials,
     })
 }
@@ -92,10 +93,13 @@ fn read_bench(mut words: Words) -> Result<Options, String> {
     let lines = words.number("--lines")?.unwrap_or(usual);
     let trials = Trials::read(&mut words, (lines / LINES_PER_SCRIPT).max(1))?;
     let [program] = words.operands(["PROGRAM"])?;
+    if lines == 0 {
+        return Err("--lines needs at least 1".to_string());
+    }
     if trials.numbers.end > trials.count {
         return Err(format!("there are only {} scripts", trials.count));
     }
-    let is_usual = lines == LINES && is_usual(&trials, LINES / LINES_PER_SCRIPT);
+    let is_usual = lines == LINES && trials.are_usual(LINES / LINES_PER_SCRIPT);
     Ok(Options {
         task: Task::Bench {
             program,
@@ -107,11 +111,6 @@ fn read_bench(mut words: Words) -> Result<Options, String> {
     })
 }
 
-/// Whether these are the trials of the usual run. Another seed may meet fewer things by chance.
-fn is_usual(trials: &Trials, usual: u64) -> bool {
-    trials.seed == 1 && trials.numbers == (0..usual)
-}
-
 fn run(Options { task, trials, .. }: &Options) -> Result<Summary, Failure> {
     let (seed, numbers) = (trials.seed, trials.numbers.clone());
     match task {
@@ -121,9 +120,9 @@ fn run(Options { task, trials, .. }: &Options) -> Result<Summary, Failure> {
             one_by_one,
             lines,
         } => {
-            let scripts = (0..).zip(Plan::new(seed, *lines, trials.count));
-            let made = scripts.filter(|(number, _)| numbers.contains(number));
-            bench::run(made, |script| {
+            let before = usize::try_from(numbers.start).expect("at most as many as scripts");
+            let scripts = Plan::new(seed, *lines, trials.count).skip(before);
+            bench::run(numbers.zip(scripts), |script| {
                 if *one_by_one {
                     output_one_by_one(program, script, PATIENCE)
                 } else {
@@ -134,23 +133,42 @@ fn run(Options { task, trials, .. }: &Options) -> Result<Summary, Failure> {
     }
 }
 
-/// Tells what a run met and what is wrong with that.
-fn report(options: &Options, summary: &Summary) -> ExitCode {
-    let (seed, trials) = (options.trials.seed, summary.trials());
-    println!("seed {seed}: {trials} trials, all equal; {summary}");
-    let faults = summary.faults(options.is_usual);
-    for fault in &faults {
-        eprintln!("{fault}");
+/// What is compared, with all that its trials depend on but their numbers.
+fn name(Options { task, trials, .. }: &Options) -> String {
+    let (seed, count) = (trials.seed, trials.count);
+    match task {
+        Task::Archive(comparison) => format!("{} --seed {seed}", comparison.name),
+        Task::Bench {
+            one_by_one, lines, ..
+        } => {
+            let how = if *one_by_one { " --one-by-one" } else { "" };
+            format!("bench{how} --seed {seed} --lines {lines} --trials {count}")
+        }
     }
-    ExitCode::from(u8::from(!faults.is_empty()))
 }
 
+/// Tells what a run met and what is wrong with that.
+fn report(options: &Options, summary: &Summary) -> ExitCode {
+    let (name, trials) = (name(options), summary.trials());
+    println!("{name}: all equal; trials {trials}; {summary}");
+    let faults = summary.faults(options.is_usual);
+    for fault in &faults {
+        eprintln!("{name}: {fault}");
+    }
+    ExitCode::from(status(&faults))
+}
+
+fn status(faults: &[String]) -> u8 {
+    u8::from(!faults.is_empty())
+}
+
+/// Tells where a run failed, in the words that make this trial again.
 fn report_failure(options: &Options, failure: &Failure) -> ExitCode {
-    let Failure { number, difference } = failure;
-    let (seed, what, told) = (options.trials.seed, difference.what, &difference.told);
-    eprintln!("seed {seed}, trial {number}: {what:?}\n{told}");
+    let (name, Failure { number, difference }) = (name(options), failure);
+    let (what, told) = (difference.what, &difference.told);
+    eprintln!("{name} --trial {number}: {what:?}\n{told}");
     if let Some(script) = &difference.script {
-        match keep(seed, *number, script) {
+        match keep(options.trials.seed, *number, script) {
             Ok(path) => eprintln!("script in: {}", path.display()),
             Err(error) => eprintln!("the script could not be kept: {error}"),
         }
@@ -164,4 +182,37 @@ fn keep(seed: u64, number: u64, script: &[u8]) -> io::Result<PathBuf> {
     let path = env::temp_dir().join(format!("compare-{seed}-{number}-{process}.txt"));
     fs::write(&path, script)?;
     Ok(path)
+}
+
+#[test]
+fn the_usual_runs() {
+    let is_usual = |words: &str| {
+        let options = read(Words::new(words.split_whitespace()));
+        options
+            .map_err(|trouble| panic!("{trouble}"))
+            .is_ok_and(|options| options.is_usual)
+    };
+    for words in [
+        "bench a",
+        "books",
+        "replays",
+        "merges",
+        "books --trials 24000 --seed 1",
+    ] {
+        assert!(is_usual(words), "{words}");
+    }
+    for words in [
+        "bench a --one-by-one",
+        "bench a --lines 2",
+        "books --seed 2",
+        "books --trial 0",
+    ] {
+        assert!(!is_usual(words), "{words}");
+    }
+}
+
+#[test]
+fn a_fault_is_a_failure() {
+    assert_eq!(status(&[]), 0);
+    assert_eq!(status(&["books: never occurred: grown".to_string()]), 1);
 }

@@ -119,6 +119,11 @@ impl Trials {
             numbers,
         })
     }
+
+    /// Whether these are the trials of the usual run. Another seed may meet fewer things by chance.
+    pub fn are_usual(&self, usual: u64) -> bool {
+        self.seed == 1 && self.numbers == (0..usual)
+    }
 }
 
 /// The whole of a `main`: reads the command line and runs the program, or says how it is called.

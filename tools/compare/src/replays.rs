@@ -41,7 +41,7 @@ const WAYS: [&str; 5] = [
     "every room",
     "a list",
 ];
-const BOOKS: [&str; 4] = ["grown", "built", "damaged", "lent other words"];
+const LENT: [&str; 4] = ["grown", "built", "damaged", "lent other words"];
 const LISTS: [&str; 5] = [
     "a call",
     "a replay",
@@ -62,7 +62,7 @@ fn summary() -> Summary {
         ("traces", Tally::new(WAYS, ALL)),
         ("sound traces", Tally::new(sound, ALL / 4)),
         ("damaged traces", Tally::new(damaged, ALL / 4)),
-        ("books", Tally::new(BOOKS, ALL)),
+        ("books", Tally::new(LENT, ALL)),
         ("replays", Tally::new(replays, ALL)),
         ("records", Tally::of_answers(records, &[], 4 * ALL)),
         ("deliveries", Tally::of_splits(ALL)),

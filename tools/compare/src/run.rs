@@ -11,6 +11,8 @@ use crate::implementation::Implementation;
 
 /// A tally of more kinds is told by its total alone.
 const MOST_TOLD: usize = 30;
+/// The usual run must meet every kind so often, so that a small change of what is drawn loses none.
+const OFTEN: u64 = 3;
 
 /// What the trials of a run have met, in several tallies.
 #[derive(Clone, Debug, PartialEq, Eq)]
@@ -33,6 +35,11 @@ impl Summary {
         self.trials
     }
 
+    /// The names of the tallies.
+    pub fn names(&self) -> impl Iterator<Item = &'static str> + '_ {
+        self.tallies.iter().map(|(name, _)| *name)
+    }
+
     /// A tally by its name.
     pub fn tally(&mut self, name: &str) -> &mut Tally {
         let mut tallies = self.tallies.iter_mut();
@@ -51,14 +58,20 @@ impl Summary {
         kinds.into_iter().for_each(|kind| tally.add(kind.as_ref()));
     }
 
-    /// What cannot occur, and what never occurred in a run that is long enough for it. The usual run must be
-    /// long enough for all.
+    /// What is wrong with what was met. The usual run must meet every kind often, another one those for which
+    /// it is long enough. The first tally is of what is compared, so it cannot be empty.
     pub fn faults(&self, is_usual: bool) -> Vec<String> {
         let mut faults = Vec::new();
         for (name, tally) in &self.tallies {
-            let short = (is_usual && !tally.is_enough()).then(|| "too few".to_string());
-            let all = tally.faults().into_iter().chain(short);
-            faults.extend(all.map(|fault| format!("{name}: {fault}")));
+            let found = if is_usual {
+                tally.faults_below(OFTEN)
+            } else {
+                tally.faults()
+            };
+            faults.extend(found.into_iter().map(|fault| format!("{name}: {fault}")));
+        }
+        if self.tallies[0].1.total() == 0 {
+            faults.push("nothing was compared".to_string());
         }
         faults
     }

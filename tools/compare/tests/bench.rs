@@ -8,7 +8,12 @@ use std::time::Duration;
 
 use compare::bench::plan::Plan;
 use compare::bench::program::{output_one_by_one, program_output};
-use compare::bench::{first_difference, lines, output, run, usual_plan, LINES};
+use compare::bench::{first_difference, lines, output, run, LINES, LINES_PER_SCRIPT};
+
+/// The scripts of a usual run with their numbers.
+fn usual_plan() -> impl Iterator<Item = (u64, Vec<u8>)> {
+    (0..).zip(Plan::new(1, LINES, LINES / LINES_PER_SCRIPT))
+}
 
 #[test]
 fn the_second_program_equals_itself_and_meets_everything() {
@@ -177,7 +182,11 @@ fn a_difference_is_told_and_its_script_kept() {
         let (status, told) = compare(&format!("bench cat {arguments}"));
         assert_eq!(status, Some(1));
         let number = if arguments == "--trial 3" { 3 } else { 0 };
-        assert!(told.starts_with(&format!("seed 1, trial {number}: Line\nline 0\ninput: ")));
+        let (first, rest) = told.split_once('\n').unwrap();
+        assert!(
+            first.starts_with("bench --") && first.ends_with(&format!(" --trial {number}: Line"))
+        );
+        assert!(rest.starts_with("line 1\ninput: "));
         let path = told.lines().last().unwrap().strip_prefix("script in: ");
         let kept = fs::read(path.unwrap()).unwrap();
         fs::remove_file(path.unwrap()).unwrap();
@@ -186,21 +195,46 @@ fn a_difference_is_told_and_its_script_kept() {
     }
 }
 
+/// A program that has the right answers to the only script of a run of two lines.
+fn right_program(seed: u64) -> String {
+    let script = Plan::new(seed, 2, 1).next().unwrap();
+    let answers = script_file("answers", "");
+    fs::write(&answers, output(&script)).unwrap();
+    let one_by_one = format!("exec 3< {answers}; while read a; do read b <&3; echo $b; done");
+    script_file("right", &one_by_one)
+}
+
 #[test]
 fn success_is_one_line() {
-    // Empty scripts are the only ones to which `true` has the right answers.
-    for arguments in [
-        "bench true --lines 0 --trials 3",
-        "bench true --one-by-one --lines 0 --trials 3",
-        "books --trials 3",
-        "replays --seed 2 --trials 3",
-        "merges --trials 3",
+    let bench = format!("bench {} --lines 2 --trials 1", right_program(1));
+    for (arguments, name) in [
+        (&bench[..], "bench --seed 1 --lines 2 --trials 1"),
+        (
+            &format!("{bench} --one-by-one"),
+            "bench --one-by-one --seed 1 --lines 2 --trials 1",
+        ),
+        ("books --trials 3", "books --seed 1"),
+        ("replays --seed 2 --trial 3", "replays --seed 2"),
+        ("merges --trials 3", "merges --seed 1"),
     ] {
         let (status, told) = compare(arguments);
         assert_eq!(status, Some(0), "{told}");
-        assert!(told.contains(": 3 trials, all equal; "), "{told}");
+        assert!(
+            told.starts_with(&format!("{name}: all equal; trials ")),
+            "{told}"
+        );
         assert_eq!(told.lines().count(), 1);
     }
+}
+
+/// An empty script is answered rightly by a program that says nothing.
+#[test]
+fn a_run_without_a_line_is_no_success() {
+    let empty = usual_plan().find(|(_, script)| script.is_empty());
+    let (number, _) = empty.unwrap();
+    let (status, told) = compare(&format!("bench true --trial {number}"));
+    assert_eq!(status, Some(1));
+    assert!(told.ends_with(": nothing was compared\n"), "{told}");
 }
 
 #[test]
@@ -213,6 +247,7 @@ fn wrong_usage_is_told() {
         "bench a --trials 0",
         "bench a --trial 100",
         "bench a --lines -1",
+        "bench a --lines 0",
         "book",
         "books --lines 3",
         "books 7",

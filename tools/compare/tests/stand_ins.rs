@@ -1,6 +1,9 @@
 //! A usual run finds wrong stand-ins: one for each thing that is compared, and kinds of mistakes that no edit of
 //! the proofs shows. A changed word of a trace is not among them, since safe Rust cannot change it.
 
+use std::ops::Range;
+
+use compare::bench;
 use compare::books::BOOKS;
 use compare::difference::{Of, What};
 use compare::implementation::{Archive, Implementation, Lent};
@@ -13,7 +16,7 @@ use reference::layout;
 use reference::merge::{judge, merge, Named};
 use reference::replay::{answer_words, calls, find_day, replay, ANSWER_WORDS};
 use reference::soundness::{block_is_sound, sound_head};
-use reference::trace::RECORD_WORDS;
+use reference::trace::{self, RECORD_WORDS};
 use reference::words::{decode_block, decode_head};
 
 /// The second program itself.
@@ -82,6 +85,23 @@ fn nothing_changed() {
             let summary = summary.unwrap_or_else(|failure| panic!("{name}: {failure:?}"));
             assert_eq!(summary.trials(), trials);
             assert_eq!(summary.faults(false), Vec::<String>::new(), "{summary}");
+        }
+    }
+}
+
+/// A usual run that misses a kind is no success, a short one may miss all.
+#[test]
+fn every_kind_must_be_met() {
+    let summaries = [&BOOKS, &REPLAYS, &MERGES].map(|comparison| (comparison.summary)());
+    for summary in summaries.into_iter().chain([bench::summary()]) {
+        assert_eq!(summary.faults(false), ["nothing was compared"]);
+        let faults = summary.faults(true);
+        for tally in summary.names() {
+            let start = format!("{tally}: never occurred: ");
+            assert!(
+                faults.iter().any(|fault| fault.starts_with(&start)),
+                "{tally}"
+            );
         }
     }
 }
@@ -331,28 +351,95 @@ fn wrong_replays() {
     }
 }
 
-/// What a call answers by itself is compared in lists, and after a replay on which both sides agree. A replay's
-/// words do not tell the splits, so only the separate calls can show them.
+/// What a refused replay leaves, and which words of a trace are looked at.
+#[test]
+fn wrong_refusals_of_a_replay() {
+    type Replay = fn(Lent) -> Result<(), u32>;
+    let stand_ins: [(&str, What, Replay); 4] = [
+        ("an answer is written", What::Word(Of::Answers), |lent| {
+            lent.by(|book, trace, day, answers| {
+                let replayed = replay(book, trace, day, answers).map(drop);
+                if let (Err(_), Some(first)) = (replayed, answers.first_mut()) {
+                    *first = 0;
+                }
+                replayed
+            })
+        }),
+        ("the book is written", What::Word(Of::Book), |lent| {
+            lent.by(|book, trace, day, answers| {
+                let replayed = replay(book, trace, day, answers).map(drop);
+                if let (Err(_), Some(last)) = (replayed, book.last_mut()) {
+                    *last ^= 1;
+                }
+                replayed
+            })
+        }),
+        ("records of the named day alone", What::Number, |lent| {
+            let sound = |part: &Range<usize>| {
+                let mut records = lent.trace[part.clone()].chunks(RECORD_WORDS);
+                records.all(|record| trace::call(record).is_ok())
+            };
+            let days = trace::parts(lent.trace).unwrap_or_default();
+            let is_sound = days.get(lent.day as usize).is_some_and(sound);
+            let replayed = lent.by(replay).map(drop);
+            replayed.or_else(|number| {
+                if number == 13 && is_sound {
+                    Ok(())
+                } else {
+                    Err(number)
+                }
+            })
+        }),
+        ("kinds modulo 2^8", What::Number, |lent| {
+            let mut trace = lent.trace.to_vec();
+            for part in trace::parts(lent.trace).unwrap_or_default() {
+                part.step_by(RECORD_WORDS)
+                    .for_each(|kind| trace[kind] %= 256);
+            }
+            replay(lent.book, &trace, lent.day, lent.answers).map(drop)
+        }),
+    ];
+    for (name, what, stand_in) in stand_ins {
+        assert_found(&REPLAYS, name, &Replaying(stand_in), what);
+    }
+}
+
+/// A call by itself is compared in lists, and after a replay on which both sides agree. A replay's words do not
+/// tell the splits, so only the separate calls can show them.
 #[test]
 fn separate_calls_that_differ() {
-    let sums = Performing(|book: &mut [u32], call| match perform(book, call)? {
-        Answer::Sum(sum) => Ok(Answer::Sum(sum + 1)),
-        answer => Ok(answer),
-    });
-    let splits = Performing(|book: &mut [u32], call| match perform(book, call)? {
-        Answer::Splits(_) => Ok(Answer::Splits(0)),
-        answer => Ok(answer),
-    });
-    for (name, stand_in, what) in [
+    type Perform = fn(&mut [u32], Call) -> Reply;
+    let stand_ins: [(What, What, Perform); 3] = [
         (
-            "sums",
-            &sums as &dyn Implementation,
             What::Apart(Of::Answers),
+            What::Answer,
+            |book, call| match perform(book, call)? {
+                Answer::Sum(sum) => Ok(Answer::Sum(sum + 1)),
+                answer => Ok(answer),
+            },
         ),
-        ("splits", &splits, What::Splits),
-    ] {
-        assert_found(&REPLAYS, name, stand_in, what);
-        assert_found(&REPLAYS, name, stand_in, What::Answer);
+        (What::Splits, What::Answer, |book, call| {
+            match perform(book, call)? {
+                Answer::Splits(_) => Ok(Answer::Splits(0)),
+                answer => Ok(answer),
+            }
+        }),
+        (What::Apart(Of::Book), What::Word(Of::Book), |book, call| {
+            let answer = perform(book, call)?;
+            if let (Answer::Splits(_), Some(last)) = (answer, book.last_mut()) {
+                *last ^= 1;
+            }
+            Ok(answer)
+        }),
+    ];
+    for (after_replay, in_list, stand_in) in stand_ins {
+        assert_found(
+            &REPLAYS,
+            "after a replay",
+            &Performing(stand_in),
+            after_replay,
+        );
+        assert_found(&REPLAYS, "in a list", &Performing(stand_in), in_list);
     }
 }
 
@@ -405,14 +492,33 @@ fn wrong_merges() {
     for (name, what, stand_in) in stand_ins {
         assert_found(&MERGES, name, &Merging(stand_in), what);
     }
-    // A replay of one record, but of no other day, leaves the book as it was.
-    let sleeping = Replaying(|lent: Lent| {
-        let records = calls(lent.trace, lent.day, lent.answers.len())?.len();
-        let mut copy = lent.book.to_vec();
-        lent.by(|book, trace, day, answers| {
-            let book = if records == 1 { &mut copy[..] } else { book };
-            replay(book, trace, day, answers).map(drop)
-        })
-    });
-    assert_found(&MERGES, "a record by itself", &sleeping, What::Clock);
+}
+
+/// A merged day is replayed rightly at once, but not record by record.
+#[test]
+fn wrong_records_of_a_merged_day() {
+    type Replay = fn(Lent) -> Result<(), u32>;
+    let stand_ins: [(&str, What, Replay); 2] = [
+        ("the book stays as it was", What::Clock, |lent| {
+            let mut copy = lent.book.to_vec();
+            replay(&mut copy, lent.trace, lent.day, lent.answers).map(drop)
+        }),
+        ("another word changes", What::Apart(Of::Book), |lent| {
+            lent.by(|book, trace, day, answers| {
+                let replayed = replay(book, trace, day, answers).map(drop);
+                book.last_mut().into_iter().for_each(|last| *last ^= 1);
+                replayed
+            })
+        }),
+    ];
+    for (name, what, stand_in) in stand_ins {
+        let replaying = Replaying(|lent: Lent| {
+            let records = calls(lent.trace, lent.day, lent.answers.len())?.len();
+            if records == 1 {
+                return stand_in(lent);
+            }
+            lent.by(replay).map(drop)
+        });
+        assert_found(&MERGES, name, &replaying, what);
+    }
 }

@@ -75,18 +75,20 @@ impl Tally {
     /// What is wrong: kinds that cannot occur, and in a run that is long enough every expected
     /// kind that never occurred.
     pub fn faults(&self) -> Vec<String> {
-        let unexpected = self.unexpected().map(|kind| format!("unexpected: {kind}"));
-        let mut faults: Vec<String> = unexpected.collect();
-        if self.is_enough() {
-            let missing = self.expected.iter().filter(|kind| self.count(kind) == 0);
-            faults.extend(missing.map(|kind| format!("never occurred: {kind}")));
-        }
-        faults
+        let is_enough = self.total() >= self.enough;
+        self.faults_below(u64::from(is_enough))
     }
 
-    /// Whether so much was counted that each kind must have been shown.
-    pub fn is_enough(&self) -> bool {
-        self.total() >= self.enough
+    /// Kinds that cannot occur, and every expected one that occurred less often than this.
+    pub fn faults_below(&self, least: u64) -> Vec<String> {
+        let unexpected = self.unexpected().map(|kind| format!("unexpected: {kind}"));
+        let counts = self.expected.iter().map(|kind| (kind, self.count(kind)));
+        let rare = counts.filter(|(_, count)| *count < least);
+        let rare = rare.map(|(kind, count)| match count {
+            0 => format!("never occurred: {kind}"),
+            _ => format!("only {count}: {kind}"),
+        });
+        unexpected.chain(rare).collect()
     }
 
     /// How many kinds are expected.

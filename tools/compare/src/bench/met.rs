@@ -17,7 +17,7 @@ use crate::run::Summary;
 type Way = (&'static str, fn(&[u8]) -> bool);
 
 /// The ways to be unread.
-pub const WAYS: [Way; 23] = [
+const WAYS: [Way; 23] = [
     ("empty", |l| l.is_empty()),
     ("leading zero", |l| holds(l, b" 01")),
     ("zero twice", |l| l.ends_with(b" 00")),
@@ -44,6 +44,15 @@ pub const WAYS: [Way; 23] = [
     ("thousands of bytes", |l| (4_000..7_000).contains(&l.len())),
     ("longer than a chunk", |l| l.len() > 1 << 16),
 ];
+
+/// A line that reads, with the greatest number that does.
+const GREATEST: &str = "the greatest number, read";
+
+/// All kinds of lines that are odd.
+pub fn odd() -> impl Iterator<Item = &'static str> {
+    let unread = WAYS.iter().map(|(name, _)| *name);
+    unread.chain([GREATEST])
+}
 
 fn holds(line: &[u8], part: &[u8]) -> bool {
     line.windows(part.len()).any(|window| window == part)
@@ -198,10 +207,13 @@ pub fn all() -> Vec<&'static str> {
 
 /// Counts what a script is.
 pub fn count(script: &[u8], summary: &mut Summary) {
-    let lines = lines(script).map(content);
-    for line in lines.filter(|line| parse(line).is_none()) {
-        let ways = WAYS.iter().filter(|(_, is_way)| is_way(line));
-        summary.add_all("unread lines", ways.map(|(name, _)| name));
+    for line in lines(script).map(content) {
+        if parse(line).is_none() {
+            let ways = WAYS.iter().filter(|(_, is_way)| is_way(line));
+            summary.add_all("odd lines", ways.map(|(name, _)| name));
+        } else if holds(line, b"4294967295") {
+            summary.add("odd lines", GREATEST);
+        }
     }
     each_call(script, |step| {
         let cases = step.cases().into_iter().filter(|(_, holds)| *holds);

@@ -21,9 +21,7 @@ fn main() -> ExitCode {
         return ExitCode::FAILURE;
     }
     // The compiler runs in another folder than this program.
-    let folder = folder
-        .canonicalize()
-        .expect("the folder of a file has a full path");
+    let folder = folder.canonicalize().expect("the folder of a file has a full path");
     println!("cargo::rustc-link-search=native={}", folder.display());
     println!("cargo::rustc-link-lib=static=capi");
     ExitCode::SUCCESS

@@ -43,10 +43,7 @@ pub fn summary() -> Summary {
         ("odd lines", Tally::new(met::odd(), ODD_FOR_ALL)),
         ("cases", Tally::new(met::all(), CASES_FOR_ALL)),
         ("edges", Tally::new(edges::all(), EDGES_FOR_ALL)),
-        (
-            "ticks told",
-            Tally::new(edges::all_telling(), TICKS_FOR_ALL),
-        ),
+        ("ticks told", Tally::new(edges::all_telling(), TICKS_FOR_ALL)),
     ])
 }
 
@@ -59,10 +56,7 @@ pub fn run(
         let [ours, theirs] = [output(&script), program(&script)];
         if let Some(line) = first_difference(&ours, &theirs) {
             let told = told(line, [&script, &ours, &theirs]);
-            return Err(Difference {
-                script: Some(script),
-                ..Difference::new(What::Line, told)
-            });
+            return Err(Difference { script: Some(script), ..Difference::new(What::Line, told) });
         }
         for answer in lines(&ours).map(content) {
             let answer = String::from_utf8_lossy(answer);

@@ -25,12 +25,7 @@ use crate::implementation::Implementation;
 use crate::run::{Comparison, Summary};
 
 /// The comparison on books.
-pub const BOOKS: Comparison = Comparison {
-    name: "books",
-    usual: 24_000,
-    summary,
-    trial,
-};
+pub const BOOKS: Comparison = Comparison { name: "books", usual: 24_000, summary, trial };
 
 /// A run of so many books must show every kind of book, of damage and of answer.
 const BOOKS_FOR_ALL: u64 = 2_000;
@@ -91,18 +86,12 @@ fn summary() -> Summary {
         ("damage", Tally::new(damage, BOOKS_FOR_ALL / 2)),
         ("faults alone", Tally::new(alone, FAULTS_FOR_ALL)),
         // Each book gets several calls.
-        (
-            "calls",
-            Tally::of_answers(refusal::CALLS, &[], 4 * BOOKS_FOR_ALL),
-        ),
+        ("calls", Tally::of_answers(refusal::CALLS, &[], 4 * BOOKS_FOR_ALL)),
         ("refusals", Tally::new(hiding, KINDS_FOR_ALL)),
         ("deliveries", Tally::of_splits(BOOKS_FOR_ALL)),
         ("grounds", Tally::new(grounds::all(), KINDS_FOR_ALL)),
         ("edges", Tally::new(edges::all(), KINDS_FOR_ALL)),
-        (
-            "ticks told",
-            Tally::new(edges::all_telling(), KINDS_FOR_ALL),
-        ),
+        ("ticks told", Tally::new(edges::all_telling(), KINDS_FOR_ALL)),
     ])
 }
 
@@ -121,11 +110,8 @@ fn trial(
         Kind::Grown if words.len() < LONG => 12 + random.below(60),
         _ => 4 + random.below(6),
     };
-    let mut source = Source {
-        random: random.clone(),
-        pace: probing,
-        makes: Makes::Length(words.len()),
-    };
+    let mut source =
+        Source { random: random.clone(), pace: probing, makes: Makes::Length(words.len()) };
     for number in 0..calls {
         source.pace = match kind {
             Kind::Grown if number + 8 < calls => growing,

@@ -135,9 +135,7 @@ impl<'i> Desk<'i> {
     ) -> Result<Result<Ground, u32>, Difference> {
         let range = self.start..self.start + lent;
         let expected = ground(&self.ours[range.clone()], grade, window);
-        let found = self
-            .implementation
-            .ground(&self.theirs[range], grade, window);
+        let found = self.implementation.ground(&self.theirs[range], grade, window);
         let checked = if expected == found {
             self.check_book(&self.ours)
         } else {
@@ -165,11 +163,7 @@ impl<'i> Desk<'i> {
             Call::Query { grade, window } => Some(self.implementation.ground(book, grade, window)),
             _ => None,
         };
-        Answered {
-            call,
-            reply,
-            ground,
-        }
+        Answered { call, reply, ground }
     }
 
     /// Finds a day and replays it, by both sides and by the implementation's own calls one by one.
@@ -181,14 +175,10 @@ impl<'i> Desk<'i> {
             let words = [&kept[..], &kept, read_again(&around)];
             check_words(What::Word(Of::Trace), words, MARGIN)
         });
-        let Asked {
-            day, lent, room, ..
-        } = asked;
+        let Asked { day, lent, room, .. } = asked;
         outcome.map_err(|difference| {
             let trace = format!("trace {:?}", asked.trace);
-            difference.of(format!(
-                "day {day}, {lent} words of the book, {room} answers\n{trace}"
-            ))
+            difference.of(format!("day {day}, {lent} words of the book, {room} answers\n{trace}"))
         })
     }
 
@@ -199,10 +189,8 @@ impl<'i> Desk<'i> {
         check_trace: impl Fn() -> Result<(), Difference>,
     ) -> Result<Outcome, Difference> {
         check_part(self.implementation, asked)?;
-        let before = Side {
-            book: self.ours.clone(),
-            answers: unlikely(&mut self.random, asked.room),
-        };
+        let before =
+            Side { book: self.ours.clone(), answers: unlikely(&mut self.random, asked.room) };
         let mut ours = before.clone();
         let expected = self.lent_of(&mut ours, asked).by(replay::replay);
         let refused_writes = expected.is_err() && ours != before;
@@ -233,10 +221,8 @@ impl<'i> Desk<'i> {
     }
 
     fn check_side(&self, what: fn(Of) -> What, sides: [&Side; 3]) -> Result<(), Difference> {
-        let [books, answers] = [
-            sides.map(|side| &side.book[..]),
-            sides.map(|side| &side.answers[..]),
-        ];
+        let [books, answers] =
+            [sides.map(|side| &side.book[..]), sides.map(|side| &side.answers[..])];
         check_words(what(Of::Book), books, self.start)?;
         check_words(what(Of::Answers), answers, MARGIN)
     }

@@ -63,19 +63,12 @@ pub enum Of {
 impl Difference {
     /// This differs.
     pub fn new(what: What, told: impl Display) -> Difference {
-        Difference {
-            what,
-            told: told.to_string(),
-            script: None,
-        }
+        Difference { what, told: told.to_string(), script: None }
     }
 
     /// The same, with what it is about before it.
     pub fn of(self, about: impl Display) -> Difference {
-        Difference {
-            told: format!("{about}\n{}", self.told),
-            ..self
-        }
+        Difference { told: format!("{about}\n{}", self.told), ..self }
     }
 }
 

@@ -63,11 +63,9 @@ impl Implementation for Archive {
         match call {
             Call::Make { k, n, m, g } => litres::make(book, k, n, m, g).map(done),
             Call::Clock { clock } => litres::clock(book, clock).map(done),
-            Call::Delivery {
-                grade,
-                stamp,
-                volume,
-            } => litres::delivery(book, grade, stamp, volume).map(Answer::Splits),
+            Call::Delivery { grade, stamp, volume } => {
+                litres::delivery(book, grade, stamp, volume).map(Answer::Splits)
+            }
             Call::Query { grade, window } => litres::query(book, grade, window).map(Answer::Sum),
         }
         .map_err(number)

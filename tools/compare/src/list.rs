@@ -23,13 +23,8 @@ const LONGEST: usize = 2_000;
 
 /// Grounds that were held against the ledger, by whether it has the same sum. Where n is at most k + 1,
 /// nothing but the limit bounds the difference.
-pub const GROUNDS: [[&str; 2]; 2] = [
-    ["exact", "off"],
-    [
-        "exact where n is at most k + 1",
-        "off where n is at most k + 1",
-    ],
-];
+pub const GROUNDS: [[&str; 2]; 2] =
+    [["exact", "off"], ["exact where n is at most k + 1", "off where n is at most k + 1"]];
 
 /// A book and its ledger.
 pub struct List<'i> {
@@ -92,12 +87,7 @@ impl<'i> List<'i> {
         room: usize,
         summary: &mut Summary,
     ) -> Result<(), Difference> {
-        let outcome = self.desk.ask(Asked {
-            trace,
-            day,
-            lent: self.desk.book().len(),
-            room,
-        })?;
+        let outcome = self.desk.ask(Asked { trace, day, lent: self.desk.book().len(), room })?;
         let kind = match outcome {
             Ok(_) => "a replay",
             Err(_) => "a refused replay",
@@ -113,11 +103,7 @@ impl<'i> List<'i> {
         let expected = self.ledger.perform(call, self.desk.book().len());
         if let (Call::Query { grade, window }, Ok(Answer::Sum(sum))) = (call, reply) {
             let is_exact = expected == reply;
-            let kind = if is_exact {
-                "an exact sum"
-            } else {
-                "another sum"
-            };
+            let kind = if is_exact { "an exact sum" } else { "another sum" };
             summary.add("lists", kind);
             let shape = self.ledger.shape();
             let grounds = GROUNDS[usize::from(shape.n() <= shape.k() + 1)];
@@ -134,10 +120,7 @@ pub fn check(ledger: &Ledger, expected: Reply, answered: Answered) -> Result<(),
     let Answered { call, reply, .. } = answered;
     let told = |what, found: &str| {
         let expected = answer(expected);
-        Difference::new(
-            what,
-            format!("call {call:?}: {found}, the ledger: {expected}"),
-        )
+        Difference::new(what, format!("call {call:?}: {found}, the ledger: {expected}"))
     };
     if !agrees(ledger, expected, reply) {
         return Err(told(What::Ledger, &answer(reply)));

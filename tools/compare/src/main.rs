@@ -52,11 +52,7 @@ struct Options {
 }
 
 enum Task {
-    Bench {
-        program: OsString,
-        one_by_one: bool,
-        lines: u64,
-    },
+    Bench { program: OsString, one_by_one: bool, lines: u64 },
     Archive(&'static Comparison),
 }
 
@@ -68,15 +64,11 @@ fn main() -> ExitCode {
 }
 
 fn read(mut words: Words) -> Result<Options, String> {
-    let name = words
-        .subcommand()
-        .ok_or("bench, books, replays or merges is missing")?;
+    let name = words.subcommand().ok_or("bench, books, replays or merges is missing")?;
     if name == "bench" {
         return read_bench(words);
     }
-    let comparison = [&BOOKS, &REPLAYS, &MERGES]
-        .into_iter()
-        .find(|one| name == one.name);
+    let comparison = [&BOOKS, &REPLAYS, &MERGES].into_iter().find(|one| name == one.name);
     let comparison = comparison.ok_or(format!("no comparison: {}", name.display()))?;
     let trials = Trials::read(&mut words, comparison.usual)?;
     let [] = words.operands([])?;
@@ -100,26 +92,14 @@ fn read_bench(mut words: Words) -> Result<Options, String> {
         return Err(format!("there are only {} scripts", trials.count));
     }
     let is_usual = lines == LINES && trials.are_usual(LINES / LINES_PER_SCRIPT);
-    Ok(Options {
-        task: Task::Bench {
-            program,
-            one_by_one,
-            lines,
-        },
-        trials,
-        is_usual,
-    })
+    Ok(Options { task: Task::Bench { program, one_by_one, lines }, trials, is_usual })
 }
 
 fn run(Options { task, trials, .. }: &Options) -> Result<Summary, Failure> {
     let (seed, numbers) = (trials.seed, trials.numbers.clone());
     match task {
         Task::Archive(comparison) => comparison.run(&Archive, seed, numbers),
-        Task::Bench {
-            program,
-            one_by_one,
-            lines,
-        } => {
+        Task::Bench { program, one_by_one, lines } => {
             let before = usize::try_from(numbers.start).expect("at most as many as scripts");
             let scripts = Plan::new(seed, *lines, trials.count).skip(before);
             bench::run(numbers.zip(scripts), |script| {
@@ -138,9 +118,7 @@ fn name(Options { task, trials, .. }: &Options) -> String {
     let (seed, count) = (trials.seed, trials.count);
     match task {
         Task::Archive(comparison) => format!("{} --seed {seed}", comparison.name),
-        Task::Bench {
-            one_by_one, lines, ..
-        } => {
+        Task::Bench { one_by_one, lines, .. } => {
             let how = if *one_by_one { " --one-by-one" } else { "" };
             format!("bench{how} --seed {seed} --lines {lines} --trials {count}")
         }
@@ -188,25 +166,13 @@ fn keep(seed: u64, number: u64, script: &[u8]) -> io::Result<PathBuf> {
 fn the_usual_runs() {
     let is_usual = |words: &str| {
         let options = read(Words::new(words.split_whitespace()));
-        options
-            .map_err(|trouble| panic!("{trouble}"))
-            .is_ok_and(|options| options.is_usual)
+        options.map_err(|trouble| panic!("{trouble}")).is_ok_and(|options| options.is_usual)
     };
-    for words in [
-        "bench a",
-        "books",
-        "replays",
-        "merges",
-        "books --trials 24000 --seed 1",
-    ] {
+    for words in ["bench a", "books", "replays", "merges", "books --trials 24000 --seed 1"] {
         assert!(is_usual(words), "{words}");
     }
-    for words in [
-        "bench a --one-by-one",
-        "bench a --lines 2",
-        "books --seed 2",
-        "books --trial 0",
-    ] {
+    for words in ["bench a --one-by-one", "bench a --lines 2", "books --seed 2", "books --trial 0"]
+    {
         assert!(!is_usual(words), "{words}");
     }
 }

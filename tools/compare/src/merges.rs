@@ -21,12 +21,7 @@ use crate::implementation::{Implementation, Lent};
 use crate::run::{Comparison, Summary};
 
 /// The comparison on merges.
-pub const MERGES: Comparison = Comparison {
-    name: "merges",
-    usual: 48_000,
-    summary,
-    trial,
-};
+pub const MERGES: Comparison = Comparison { name: "merges", usual: 48_000, summary, trial };
 
 /// A run of so many merges must show every kind of merge, of book and of answer.
 const MERGES_FOR_ALL: u64 = 4_000;
@@ -147,10 +142,7 @@ fn merge(
         Err(number) => Ok(Err(number)),
         Ok(days) => match merged_clocks(days, &words) {
             Some(clocks) => Ok(Ok(Merged { words, clocks })),
-            None => Err(Difference::new(
-                What::Merged,
-                format!("no merged day: {words:?}"),
-            )),
+            None => Err(Difference::new(What::Merged, format!("no merged day: {words:?}"))),
         },
     }
 }
@@ -169,12 +161,7 @@ fn replay(
     assert_eq!(met, *clocks, "the second program: {words:?} on {book:?}");
     let mut desk = Desk::new(implementation, random, book);
     let room = ANSWER_WORDS * clocks.len();
-    let answered = desk.ask(Asked {
-        trace: &lay_out(&[words]),
-        day: 0,
-        lent: book.len(),
-        room,
-    })?;
+    let answered = desk.ask(Asked { trace: &lay_out(&[words]), day: 0, lent: book.len(), room })?;
     let answered = answered.expect("a trace with a day and room for its answers");
     let replies: Vec<Reply> = answered.iter().map(|answered| answered.reply).collect();
     let (left, answers) = record_by_record(implementation, book, merged)?;
@@ -196,12 +183,8 @@ fn record_by_record(
     let records = merged.words.chunks(RECORD_WORDS).zip(&merged.clocks);
     for (number, (record, expected)) in records.enumerate() {
         let mut answer = [0; ANSWER_WORDS];
-        let lent = Lent {
-            book: &mut left,
-            trace: &lay_out(&[record]),
-            day: 0,
-            answers: &mut answer,
-        };
+        let lent =
+            Lent { book: &mut left, trace: &lay_out(&[record]), day: 0, answers: &mut answer };
         let found = implementation.replay(lent).map(|()| left[layout::CLOCK]);
         if found != Ok(*expected) {
             let told = format!("record {number} meets {found:?}, its own clock is {expected}");

@@ -17,9 +17,7 @@ pub struct Words {
 impl Words {
     /// These words, the program's own name not among them.
     pub fn new<W: Into<OsString>>(words: impl IntoIterator<Item = W>) -> Words {
-        Words {
-            left: words.into_iter().map(W::into).collect(),
-        }
+        Words { left: words.into_iter().map(W::into).collect() }
     }
 
     /// Takes out the first word, which says what a program is to do.
@@ -113,11 +111,7 @@ impl Trials {
                 number..end.ok_or(format!("--trial needs a number below {number}"))?
             }
         };
-        Ok(Trials {
-            seed,
-            count,
-            numbers,
-        })
+        Ok(Trials { seed, count, numbers })
     }
 
     /// Whether these are the trials of the usual run. Another seed may meet fewer things by chance.

@@ -9,10 +9,7 @@ use reference::window::opening;
 /// Windows of at most n.
 const SHORT: [&str; 2] = ["a window below n", "a window of n"];
 /// Wider windows whose sums are promised all the same.
-const QUIET: [&str; 2] = [
-    "a wider one over fewer than n stamps",
-    "a wider one over n stamps",
-];
+const QUIET: [&str; 2] = ["a wider one over fewer than n stamps", "a wider one over n stamps"];
 /// Wider windows of which nothing is promised, by whether the sum is exact.
 const BUSY: [[&str; 2]; 2] = [
     ["over n + 1 stamps, exact", "over n + 1 stamps, off"],
@@ -63,14 +60,8 @@ fn left_out(ledger: &Ledger, grade: u32, window: u32) -> impl Iterator<Item = &'
     let deliveries = ledger.entries().iter().filter(is_counted).count();
     let counts = [
         (EARLIER, different(&|e| is_of_grade(e) && is_in_interval(e))),
-        (
-            GRADES,
-            different(&|e| is_from_opening(e) && is_in_interval(e)),
-        ),
-        (
-            CURRENT,
-            different(&|e| is_of_grade(e) && is_from_opening(e)),
-        ),
+        (GRADES, different(&|e| is_from_opening(e) && is_in_interval(e))),
+        (CURRENT, different(&|e| is_of_grade(e) && is_from_opening(e))),
         (REPEATS, deliveries),
     ];
     let n = shape.n() as usize;

@@ -20,12 +20,7 @@ use crate::quiet;
 use crate::run::{Comparison, Summary};
 
 /// The comparison on traces.
-pub const REPLAYS: Comparison = Comparison {
-    name: "replays",
-    usual: 24_000,
-    summary,
-    trial,
-};
+pub const REPLAYS: Comparison = Comparison { name: "replays", usual: 24_000, summary, trial };
 
 /// A run of so many traces must show every kind of trace, of replay, of answer and of question.
 const TRACES_FOR_ALL: u64 = 4_000;
@@ -34,21 +29,9 @@ const EVERY_WORD: usize = 120;
 /// Answer slices of all lengths up to so far from the limit.
 const EVERY_ROOM: usize = 4;
 
-const WAYS: [&str; 5] = [
-    "any days",
-    "all days in turn",
-    "every word",
-    "every room",
-    "a list",
-];
+const WAYS: [&str; 5] = ["any days", "all days in turn", "every word", "every room", "a list"];
 const LENT: [&str; 4] = ["grown", "built", "damaged", "lent other words"];
-const LISTS: [&str; 5] = [
-    "a call",
-    "a replay",
-    "a refused replay",
-    "an exact sum",
-    "another sum",
-];
+const LISTS: [&str; 5] = ["a call", "a replay", "a refused replay", "an exact sum", "another sum"];
 
 fn summary() -> Summary {
     const ALL: u64 = TRACES_FOR_ALL;
@@ -118,12 +101,7 @@ impl<'a> Table<'a> {
         };
         summary.add("books", kind);
         let desk = Desk::new(implementation, random, &words);
-        Table {
-            random,
-            summary,
-            shape,
-            desk,
-        }
+        Table { random, summary, shape, desk }
     }
 
     /// A sound trace for a trial of this way.
@@ -138,11 +116,7 @@ impl<'a> Table<'a> {
     fn any_days(&mut self) -> Result<(), Difference> {
         self.summary.add("traces", "any days");
         let drawn = Drawn::draw(self.random, self.shape, self.desk.book());
-        let traces = if drawn.damaged {
-            "damaged traces"
-        } else {
-            "sound traces"
-        };
+        let traces = if drawn.damaged { "damaged traces" } else { "sound traces" };
         self.summary.add(traces, drawn.kind);
         for _ in 0..self.random.between(2, 4) {
             let day = trace::day(self.random, drawn.count());
@@ -207,12 +181,7 @@ impl<'a> Table<'a> {
     }
 
     fn ask(&mut self, trace: &[u32], day: u32, lent: usize, room: usize) -> Result<(), Difference> {
-        let asked = Asked {
-            trace,
-            day,
-            lent,
-            room,
-        };
+        let asked = Asked { trace, day, lent, room };
         let outcome = self.desk.ask(asked)?;
         let summary = &mut *self.summary;
         if lent != self.desk.book().len() {

@@ -24,10 +24,7 @@ pub struct Summary {
 impl Summary {
     /// Nothing met yet. Each tally has a name.
     pub fn new(tallies: impl Into<Vec<(&'static str, Tally)>>) -> Summary {
-        Summary {
-            trials: 0,
-            tallies: tallies.into(),
-        }
+        Summary { trials: 0, tallies: tallies.into() }
     }
 
     /// Trials without a difference.
@@ -63,11 +60,7 @@ impl Summary {
     pub fn faults(&self, is_usual: bool) -> Vec<String> {
         let mut faults = Vec::new();
         for (name, tally) in &self.tallies {
-            let found = if is_usual {
-                tally.faults_below(OFTEN)
-            } else {
-                tally.faults()
-            };
+            let found = if is_usual { tally.faults_below(OFTEN) } else { tally.faults() };
             faults.extend(found.into_iter().map(|fault| format!("{name}: {fault}")));
         }
         if self.tallies[0].1.total() == 0 {

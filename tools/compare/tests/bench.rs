@@ -43,10 +43,7 @@ fn some_scripts_are_empty_and_some_end_without_a_newline() {
     let (empty, ended) = (count(<[u8]>::is_empty), count(|s| s.ends_with(b"\n")));
     assert!(empty >= 3, "{empty}");
     assert!(ended >= scripts.len() / 3, "{ended}");
-    assert!(
-        scripts.len() - ended - empty >= scripts.len() / 6,
-        "{ended}, {empty}"
-    );
+    assert!(scripts.len() - ended - empty >= scripts.len() / 6, "{ended}, {empty}");
 }
 
 #[test]
@@ -114,10 +111,9 @@ fn a_child_that_fails_is_told() {
         ("./no-such-program", "(program could not be run: "),
     ] {
         let program = OsStr::new(program);
-        for output in [
-            program_output(program, &script),
-            output_one_by_one(program, b"a\nb\n", LONG),
-        ] {
+        for output in
+            [program_output(program, &script), output_one_by_one(program, b"a\nb\n", LONG)]
+        {
             assert!(output.starts_with(told.as_bytes()), "{program:?}");
             assert_eq!(output.is_empty(), told.is_empty(), "{program:?}");
         }
@@ -131,10 +127,7 @@ fn a_child_without_an_answer_or_an_end_is_told() {
         String::from_utf8(output).unwrap()
     };
     // It prints what it has read, all of it after the end of the input.
-    assert_eq!(
-        output("tac", b"ok\nok\n", SHORT),
-        "(no answer within 300ms)\n"
-    );
+    assert_eq!(output("tac", b"ok\nok\n", SHORT), "(no answer within 300ms)\n");
     // A single line without its newline is the end of the input as well.
     assert_eq!(output("tac", b"ok", LONG), "ok");
     let endless = output("yes", b"a\n", LONG);
@@ -167,11 +160,7 @@ fn compare(arguments: &str) -> (Option<i32>, String) {
         .args(arguments.split_whitespace())
         .env("TMPDIR", env!("CARGO_TARGET_TMPDIR"))
         .output();
-    let Output {
-        status,
-        stdout,
-        stderr,
-    } = command.unwrap();
+    let Output { status, stdout, stderr } = command.unwrap();
     let told = String::from_utf8([stdout, stderr].concat()).unwrap();
     (status.code(), told)
 }
@@ -209,20 +198,14 @@ fn success_is_one_line() {
     let bench = format!("bench {} --lines 2 --trials 1", right_program(1));
     for (arguments, name) in [
         (&bench[..], "bench --seed 1 --lines 2 --trials 1"),
-        (
-            &format!("{bench} --one-by-one"),
-            "bench --one-by-one --seed 1 --lines 2 --trials 1",
-        ),
+        (&format!("{bench} --one-by-one"), "bench --one-by-one --seed 1 --lines 2 --trials 1"),
         ("books --trials 3", "books --seed 1"),
         ("replays --seed 2 --trial 3", "replays --seed 2"),
         ("merges --trials 3", "merges --seed 1"),
     ] {
         let (status, told) = compare(arguments);
         assert_eq!(status, Some(0), "{told}");
-        assert!(
-            told.starts_with(&format!("{name}: all equal; trials ")),
-            "{told}"
-        );
+        assert!(told.starts_with(&format!("{name}: all equal; trials ")), "{told}");
         assert_eq!(told.lines().count(), 1);
     }
 }

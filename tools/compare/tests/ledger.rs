@@ -14,11 +14,7 @@ use reference::shape::Shape;
 fn ledger([k, n, m, g]: [u32; 4], clock: u32, deliveries: &[(u32, u32)]) -> Ledger {
     let shape = Shape::new(k, n, m, g).unwrap();
     let mut ledger = Ledger::new(shape);
-    let delivery = |&(grade, stamp): &(u32, u32)| Call::Delivery {
-        grade,
-        stamp,
-        volume: 10,
-    };
+    let delivery = |&(grade, stamp): &(u32, u32)| Call::Delivery { grade, stamp, volume: 10 };
     let calls = [Call::Clock { clock }].into_iter();
     for call in calls.chain(deliveries.iter().map(delivery)) {
         ledger.perform(call, shape.book_length()).unwrap();
@@ -38,12 +34,7 @@ fn sum(sum: u64) -> Reply {
 }
 
 fn ground(sum: u64) -> Option<Result<Ground, u32>> {
-    Some(Ok(Ground {
-        sum,
-        level: 1,
-        limit: 10,
-        finer: Finer::First(15),
-    }))
+    Some(Ok(Ground { sum, level: 1, limit: 10, finer: Finer::First(15) }))
 }
 
 /// What the ledger contradicts, if anything.
@@ -54,11 +45,7 @@ fn contradicted(
     reply: Reply,
     ground: Option<Result<Ground, u32>>,
 ) -> Option<What> {
-    let answered = Answered {
-        call,
-        reply,
-        ground,
-    };
+    let answered = Answered { call, reply, ground };
     let difference = check(ledger, expected, answered).err();
     difference.map(|difference| difference.what)
 }
@@ -86,11 +73,7 @@ fn answers_and_grounds() {
         (Err(5), Err(5), ground(100), What::Limit),
         (sum(100), sum(110), ground(110), What::Inexact),
     ] {
-        assert_eq!(
-            contradicted(expected, reply, ground),
-            Some(what),
-            "{reply:?}, {ground:?}"
-        );
+        assert_eq!(contradicted(expected, reply, ground), Some(what), "{reply:?}, {ground:?}");
     }
 }
 
@@ -146,10 +129,7 @@ fn kinds_of_questions() {
     let named: [&str; 12] = all().try_into().unwrap();
     let [short, of_n, fewer, as_many, one_more @ .., _, _, _, _, _, _] = named;
     let [_, _, _, _, _, _, _, _, earlier, grades, current, repeats] = named;
-    assert_eq!(
-        one_more,
-        ["over n + 1 stamps, exact", "over n + 1 stamps, off"]
-    );
+    assert_eq!(one_more, ["over n + 1 stamps, exact", "over n + 1 stamps, off"]);
     let more = ["over more stamps, exact", "over more stamps, off"];
     type Row<'r> = (u32, &'r [(u32, u32)], u32, &'r [&'r str]);
     let rows: [Row; 15] = [

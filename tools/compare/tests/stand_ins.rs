@@ -77,10 +77,7 @@ fn assert_found(comparison: &Comparison, name: &str, stand_in: &dyn Implementati
 #[test]
 fn nothing_changed() {
     for (comparison, trials) in [(&BOOKS, 2_500), (&REPLAYS, 5_000), (&MERGES, 12_000)] {
-        for (name, one) in [
-            ("same", &Same as &dyn Implementation),
-            ("archive", &Archive),
-        ] {
+        for (name, one) in [("same", &Same as &dyn Implementation), ("archive", &Archive)] {
             let summary = comparison.run(one, 3, 0..trials);
             let summary = summary.unwrap_or_else(|failure| panic!("{name}: {failure:?}"));
             assert_eq!(summary.trials(), trials);
@@ -98,10 +95,7 @@ fn every_kind_must_be_met() {
         let faults = summary.faults(true);
         for tally in summary.names() {
             let start = format!("{tally}: never occurred: ");
-            assert!(
-                faults.iter().any(|fault| fault.starts_with(&start)),
-                "{tally}"
-            );
+            assert!(faults.iter().any(|fault| fault.starts_with(&start)), "{tally}");
         }
     }
 }
@@ -129,43 +123,31 @@ fn arithmetic_that_wraps() {
         }
         reply
     });
-    assert_found("the length of a make", |book, call| {
-        match (perform(book, call), call) {
-            (Err(1), Call::Make { k: 2..=20, n, m, g })
-                if wrapped_length(n, m, g) == book.len() =>
-            {
-                Ok(Answer::Done)
-            }
-            (reply, _) => reply,
+    assert_found("the length of a make", |book, call| match (perform(book, call), call) {
+        (Err(1), Call::Make { k: 2..=20, n, m, g }) if wrapped_length(n, m, g) == book.len() => {
+            Ok(Answer::Done)
         }
+        (reply, _) => reply,
     });
-    assert_found("the length of a book", |book, call| {
-        match perform(book, call) {
-            Err(7) => {
-                let [_, n, m, g] = decode_head(book).shape;
-                Err(if wrapped_length(n, m, g) == book.len() {
-                    11
-                } else {
-                    7
-                })
-            }
-            reply => reply,
+    assert_found("the length of a book", |book, call| match perform(book, call) {
+        Err(7) => {
+            let [_, n, m, g] = decode_head(book).shape;
+            Err(if wrapped_length(n, m, g) == book.len() { 11 } else { 7 })
         }
+        reply => reply,
     });
-    assert_found("the start of a block", |book, call| {
-        match (perform(book, call), call) {
-            (Err(3), Call::Delivery { grade, .. }) => {
-                let (shape, _) = sound_head(decode_head(book)).expect("3 comes after 7");
-                let start = grade.wrapping_mul(shape.block_length() as u32) as usize;
-                let inside = start < book.len() - layout::HEAD_WORDS;
-                if inside {
-                    Ok(Answer::Splits(0))
-                } else {
-                    Err(3)
-                }
+    assert_found("the start of a block", |book, call| match (perform(book, call), call) {
+        (Err(3), Call::Delivery { grade, .. }) => {
+            let (shape, _) = sound_head(decode_head(book)).expect("3 comes after 7");
+            let start = grade.wrapping_mul(shape.block_length() as u32) as usize;
+            let inside = start < book.len() - layout::HEAD_WORDS;
+            if inside {
+                Ok(Answer::Splits(0))
+            } else {
+                Err(3)
             }
-            (reply, _) => reply,
         }
+        (reply, _) => reply,
     });
 }
 
@@ -187,8 +169,7 @@ fn wrapped_length(n: u32, m: u32, g: u32) -> usize {
     let level = slots.wrapping_add(layout::LEVEL_HEAD_WORDS as u32);
     let levels = m.wrapping_add(1).wrapping_mul(2).wrapping_mul(level);
     let block = levels.wrapping_add(layout::BOOK.block_head_words() as u32);
-    g.wrapping_mul(block)
-        .wrapping_add(layout::HEAD_WORDS as u32) as usize
+    g.wrapping_mul(block).wrapping_add(layout::HEAD_WORDS as u32) as usize
 }
 
 #[test]
@@ -213,12 +194,7 @@ fn wrong_calls() {
         ("the splits of one level", What::Answer, |book, call| {
             let before = book.to_vec();
             let answer = perform(book, call)?;
-            let Call::Delivery {
-                grade,
-                stamp,
-                volume,
-            } = call
-            else {
+            let Call::Delivery { grade, stamp, volume } = call else {
                 return Ok(answer);
             };
             let (shape, _) = sound_head(decode_head(&before)).expect("an accepted call");
@@ -235,28 +211,20 @@ fn wrong_calls() {
                 reply => reply,
             }
         }),
-        (
-            "a refusal that writes",
-            What::Word(Of::Book),
-            |book, call| {
-                let reply = perform(book, call);
-                if let (Err(_), Some(last)) = (reply, book.last_mut()) {
-                    *last ^= 1;
-                }
-                reply
-            },
-        ),
-        (
-            "a question that writes",
-            What::Word(Of::Book),
-            |book, call| {
-                let answer = perform(book, call)?;
-                if let Answer::Sum(_) = answer {
-                    book[layout::CLOCK] ^= 1;
-                }
-                Ok(answer)
-            },
-        ),
+        ("a refusal that writes", What::Word(Of::Book), |book, call| {
+            let reply = perform(book, call);
+            if let (Err(_), Some(last)) = (reply, book.last_mut()) {
+                *last ^= 1;
+            }
+            reply
+        }),
+        ("a question that writes", What::Word(Of::Book), |book, call| {
+            let answer = perform(book, call)?;
+            if let Answer::Sum(_) = answer {
+                book[layout::CLOCK] ^= 1;
+            }
+            Ok(answer)
+        }),
     ];
     for (name, what, stand_in) in stand_ins {
         assert_found(&BOOKS, name, &Performing(stand_in), what);
@@ -302,9 +270,7 @@ fn wrong_replays() {
         }),
         ("a bad book refuses all", What::Number, |lent, calls| {
             let mut book = lent.book.to_vec();
-            let refused = calls
-                .iter()
-                .find_map(|call| perform(&mut book, *call).err());
+            let refused = calls.iter().find_map(|call| perform(&mut book, *call).err());
             let replayed = lent.by(replay).map(drop);
             refused.filter(|number| *number == 7).map_or(replayed, Err)
         }),
@@ -317,30 +283,22 @@ fn wrong_replays() {
             }
             Ok(())
         }),
-        (
-            "no word for a clock",
-            What::Word(Of::Answers),
-            |lent, calls| {
-                let (book, mut places) = (lent.book, lent.answers.chunks_mut(ANSWER_WORDS));
-                for call in calls {
-                    let reply = perform(book, call);
-                    let place = places.next().expect("room for all");
-                    if reply != Ok(Answer::Done) {
-                        place.copy_from_slice(&answer_words(reply));
-                    }
+        ("no word for a clock", What::Word(Of::Answers), |lent, calls| {
+            let (book, mut places) = (lent.book, lent.answers.chunks_mut(ANSWER_WORDS));
+            for call in calls {
+                let reply = perform(book, call);
+                let place = places.next().expect("room for all");
+                if reply != Ok(Answer::Done) {
+                    place.copy_from_slice(&answer_words(reply));
                 }
-                Ok(())
-            },
-        ),
-        (
-            "room past the answers",
-            What::Word(Of::Answers),
-            |lent, calls| {
-                lent.answers.fill(0);
-                run(lent.book, &calls, lent.answers);
-                Ok(())
-            },
-        ),
+            }
+            Ok(())
+        }),
+        ("room past the answers", What::Word(Of::Answers), |lent, calls| {
+            lent.answers.fill(0);
+            run(lent.book, &calls, lent.answers);
+            Ok(())
+        }),
     ];
     for (name, what, stand_in) in stand_ins {
         let replaying = Replaying(|lent: Lent| {
@@ -382,19 +340,12 @@ fn wrong_refusals_of_a_replay() {
             let days = trace::parts(lent.trace).unwrap_or_default();
             let is_sound = days.get(lent.day as usize).is_some_and(sound);
             let replayed = lent.by(replay).map(drop);
-            replayed.or_else(|number| {
-                if number == 13 && is_sound {
-                    Ok(())
-                } else {
-                    Err(number)
-                }
-            })
+            replayed.or_else(|number| if number == 13 && is_sound { Ok(()) } else { Err(number) })
         }),
         ("kinds modulo 2^8", What::Number, |lent| {
             let mut trace = lent.trace.to_vec();
             for part in trace::parts(lent.trace).unwrap_or_default() {
-                part.step_by(RECORD_WORDS)
-                    .for_each(|kind| trace[kind] %= 256);
+                part.step_by(RECORD_WORDS).for_each(|kind| trace[kind] %= 256);
             }
             replay(lent.book, &trace, lent.day, lent.answers).map(drop)
         }),
@@ -410,19 +361,13 @@ fn wrong_refusals_of_a_replay() {
 fn separate_calls_that_differ() {
     type Perform = fn(&mut [u32], Call) -> Reply;
     let stand_ins: [(What, What, Perform); 3] = [
-        (
-            What::Apart(Of::Answers),
-            What::Answer,
-            |book, call| match perform(book, call)? {
-                Answer::Sum(sum) => Ok(Answer::Sum(sum + 1)),
-                answer => Ok(answer),
-            },
-        ),
-        (What::Splits, What::Answer, |book, call| {
-            match perform(book, call)? {
-                Answer::Splits(_) => Ok(Answer::Splits(0)),
-                answer => Ok(answer),
-            }
+        (What::Apart(Of::Answers), What::Answer, |book, call| match perform(book, call)? {
+            Answer::Sum(sum) => Ok(Answer::Sum(sum + 1)),
+            answer => Ok(answer),
+        }),
+        (What::Splits, What::Answer, |book, call| match perform(book, call)? {
+            Answer::Splits(_) => Ok(Answer::Splits(0)),
+            answer => Ok(answer),
         }),
         (What::Apart(Of::Book), What::Word(Of::Book), |book, call| {
             let answer = perform(book, call)?;
@@ -433,12 +378,7 @@ fn separate_calls_that_differ() {
         }),
     ];
     for (after_replay, in_list, stand_in) in stand_ins {
-        assert_found(
-            &REPLAYS,
-            "after a replay",
-            &Performing(stand_in),
-            after_replay,
-        );
+        assert_found(&REPLAYS, "after a replay", &Performing(stand_in), after_replay);
         assert_found(&REPLAYS, "in a list", &Performing(stand_in), in_list);
     }
 }
@@ -458,14 +398,9 @@ fn the_second_day_first() {
 fn wrong_merges() {
     type Merge = fn([Named; 2], &mut [u32]) -> Result<(), u32>;
     let stand_ins: [(&str, What, Merge); 4] = [
-        (
-            "an output that is too long",
-            What::Number,
-            |named, output| {
-                merge(named, output)
-                    .or_else(|number| if number == 17 { Ok(()) } else { Err(number) })
-            },
-        ),
+        ("an output that is too long", What::Number, |named, output| {
+            merge(named, output).or_else(|number| if number == 17 { Ok(()) } else { Err(number) })
+        }),
         ("one after the other", What::Merged, |named, output| {
             output.copy_from_slice(&judge(named, output.len())?.concat());
             Ok(())
@@ -477,17 +412,13 @@ fn wrong_merges() {
             }
             Ok(())
         }),
-        (
-            "a refused merge that writes",
-            What::Word(Of::Output),
-            |named, output| {
-                let merged = merge(named, output);
-                if let (Err(_), Some(first)) = (merged, output.first_mut()) {
-                    *first = 0;
-                }
-                merged
-            },
-        ),
+        ("a refused merge that writes", What::Word(Of::Output), |named, output| {
+            let merged = merge(named, output);
+            if let (Err(_), Some(first)) = (merged, output.first_mut()) {
+                *first = 0;
+            }
+            merged
+        }),
     ];
     for (name, what, stand_in) in stand_ins {
         assert_found(&MERGES, name, &Merging(stand_in), what);

@@ -26,21 +26,12 @@ impl Source {
     pub fn new(seed: u64, makes: Makes) -> Source {
         let mut random = Random::new(seed);
         let pace = Pace::draw(&mut random);
-        Source {
-            random,
-            pace,
-            makes,
-        }
+        Source { random, pace, makes }
     }
 
     /// Draws calls on a book.
     pub fn caller<'a>(&'a mut self, view: &'a dyn View) -> Caller<'a> {
-        Caller {
-            random: &mut self.random,
-            pace: self.pace,
-            makes: self.makes,
-            view,
-        }
+        Caller { random: &mut self.random, pace: self.pace, makes: self.makes, view }
     }
 
     /// Any call on a book.
@@ -232,13 +223,8 @@ impl Caller<'_> {
         let random = &mut *self.random;
         let grade = random.pick(&[0, 0, shape.g(), u32::MAX]);
         match random.below(6) {
-            0 => Call::Clock {
-                clock: random.pick(&[0, Shape::CLOCK_MAX + 1, u32::MAX]),
-            },
-            1..=2 => Call::Query {
-                grade,
-                window: random.pick(&[0, ticks, ticks + 1, u32::MAX]),
-            },
+            0 => Call::Clock { clock: random.pick(&[0, Shape::CLOCK_MAX + 1, u32::MAX]) },
+            1..=2 => Call::Query { grade, window: random.pick(&[0, ticks, ticks + 1, u32::MAX]) },
             _ => Call::Delivery {
                 grade,
                 stamp: random.pick(&[now, now.wrapping_add(1), late, u32::MAX]),

@@ -86,11 +86,7 @@ fn by_neighbours(kinds: Vec<String>, window: u32, differs: impl Fn(u32) -> bool)
     let shorter = window.checked_sub(1).map(|other| ("a tick less", other));
     let neighbours = shorter.into_iter().chain([("a tick more", window + 1)]);
     let names = neighbours.filter(|(_, other)| differs(*other));
-    let told = |(name, _)| {
-        kinds
-            .iter()
-            .map(move |kind| format!("{kind}, told from {name}"))
-    };
+    let told = |(name, _)| kinds.iter().map(move |kind| format!("{kind}, told from {name}"));
     names.flat_map(told).collect()
 }
 
@@ -118,11 +114,7 @@ pub fn all_telling() -> Vec<String> {
 fn example() -> impl Iterator<Item = (u32, Call, Reply)> {
     let calls = |clock: u32| {
         let windows = (0..=4).map(|window| Call::Query { grade: 0, window });
-        let stamps = (0..=clock).map(|stamp| Call::Delivery {
-            grade: 0,
-            stamp,
-            volume: 1,
-        });
+        let stamps = (0..=clock).map(|stamp| Call::Delivery { grade: 0, stamp, volume: 1 });
         windows.chain(stamps).map(move |call| (clock, call))
     };
     (0..=9).flat_map(calls).map(|(clock, call)| {

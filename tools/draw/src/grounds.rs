@@ -23,13 +23,8 @@ const HIGHER: &str = "a finer level with an F above the next finer one's";
 const LOST: &str = "a coarser level that has lost the opening";
 
 /// What refuses a question, and so a ground.
-const REFUSALS: [u32; 5] = [
-    refusal::LENGTH,
-    refusal::HEAD,
-    refusal::GRADE,
-    refusal::WINDOW,
-    refusal::BLOCK,
-];
+const REFUSALS: [u32; 5] =
+    [refusal::LENGTH, refusal::HEAD, refusal::GRADE, refusal::WINDOW, refusal::BLOCK];
 
 /// A book, of each kind in turn, with the grade and the window of a question.
 pub fn draw(random: &mut Random, index: u64) -> (Vec<u32>, u32, u32) {

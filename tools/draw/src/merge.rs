@@ -58,10 +58,7 @@ impl Drawn {
     /// The two days, if the words of the traces stand there.
     pub fn named_in<'t>(&self, traces: &[&'t [u32]]) -> [Named<'t>; 2] {
         let both = [traces[0], traces[traces.len() - 1]];
-        [0, 1].map(|side| Named {
-            trace: both[side],
-            day: self.days[side],
-        })
+        [0, 1].map(|side| Named { trace: both[side], day: self.days[side] })
     }
 }
 

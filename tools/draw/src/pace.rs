@@ -58,13 +58,6 @@ impl Pace {
 
     /// Calls of every kind with many numbers at an edge.
     pub fn probing(random: &mut Random) -> Pace {
-        Pace {
-            span: 40,
-            clocks: 20,
-            questions: 30,
-            edges: 3,
-            leap: 2,
-            ..Pace::draw(random)
-        }
+        Pace { span: 40, clocks: 20, questions: 30, edges: 3, leap: 2, ..Pace::draw(random) }
     }
 }

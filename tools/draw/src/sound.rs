@@ -81,11 +81,7 @@ fn level_zero(random: &mut Random, shape: Shape, total: u64) -> Level {
     let offsets = distinct(random, first, ticks, count);
     let bounds = vec![(1, sum); count as usize];
     let weights = weights(random, &bounds, sum).expect("each weight can be 1");
-    let bucket = |(offset, weight)| Bucket {
-        offset,
-        length: 1,
-        weight,
-    };
+    let bucket = |(offset, weight)| Bucket { offset, length: 1, weight };
     let buckets = offsets.into_iter().zip(weights).map(bucket).collect();
     Level { first, buckets }
 }
@@ -173,9 +169,8 @@ impl Spans {
 
     /// Splits one bucket; false where each has length 1.
     fn split(&mut self, random: &mut Random) -> bool {
-        let long: Vec<usize> = (0..self.buckets.len())
-            .filter(|slot| self.buckets[*slot].length > 1)
-            .collect();
+        let long: Vec<usize> =
+            (0..self.buckets.len()).filter(|slot| self.buckets[*slot].length > 1).collect();
         if long.is_empty() {
             return false;
         }
@@ -202,10 +197,7 @@ impl Spans {
         for (bucket, weight) in buckets.iter_mut().zip(weights) {
             bucket.weight = weight;
         }
-        Level {
-            first: buckets[0].offset,
-            buckets,
-        }
+        Level { first: buckets[0].offset, buckets }
     }
 }
 

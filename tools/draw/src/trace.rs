@@ -16,9 +16,8 @@ use crate::shapes::Makes;
 use crate::view::Words;
 
 /// An empty day, then one that makes document 01's P3 and asks P4's question.
-pub const EXAMPLE: [u32; 25] = [
-    2, 5, 0, 5, 20, 1, 3, 0, 0, 2, 0, 0, 3, 2, 0, 3, 1, 2, 0, 1, 1, 3, 0, 2, 0,
-];
+pub const EXAMPLE: [u32; 25] =
+    [2, 5, 0, 5, 20, 1, 3, 0, 0, 2, 0, 0, 3, 2, 0, 3, 1, 2, 0, 1, 1, 3, 0, 2, 0];
 
 /// Each form of a sound trace, with its fewest and its most days.
 pub const FORMS: [(&str, u32, u32); 5] = [
@@ -57,11 +56,7 @@ impl Drawn {
     pub fn sound(random: &mut Random, shape: Shape, book: &[u32]) -> Drawn {
         let (kind, fewest, most) = random.pick(&FORMS);
         let count = random.between(fewest, most);
-        Drawn {
-            kind,
-            damaged: false,
-            words: lay_out(&days(random, shape, book, count)),
-        }
+        Drawn { kind, damaged: false, words: lay_out(&days(random, shape, book, count)) }
     }
 
     /// How many days the trace says it has.
@@ -100,11 +95,7 @@ impl Writer {
             false => Pace::probing(random),
         };
         Writer {
-            source: Source {
-                random: Random::new(random.bits()),
-                pace,
-                makes: Makes::Same,
-            },
+            source: Source { random: Random::new(random.bits()), pace, makes: Makes::Same },
             shape,
             book: book.to_vec(),
         }

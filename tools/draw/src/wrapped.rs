@@ -21,14 +21,8 @@ pub fn damage(random: &mut Random, shape: Shape, words: &mut [u32]) {
 /// Shape words that give the same shifts or the same length of a book.
 fn head(random: &mut Random, shape: Shape, words: &mut [u32]) {
     let [k, n, m, g] = same_modulo_2_to_the_32(shape);
-    let (place, word) = random.pick(&[
-        (0, k),
-        (0, k + 32),
-        (1, n),
-        (2, m),
-        (2, shape.m() + 32),
-        (3, g),
-    ]);
+    let (place, word) =
+        random.pick(&[(0, k), (0, k + 32), (1, n), (2, m), (2, shape.m() + 32), (3, g)]);
     words[SHAPE][place] = word;
 }
 

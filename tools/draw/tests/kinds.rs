@@ -37,13 +37,8 @@ fn question(window: u32) -> Call {
 
 #[test]
 fn every_kind_has_a_name_of_its_own() {
-    let lists = [
-        edges::all(),
-        edges::all_telling(),
-        grounds::all(),
-        merge::met::all(),
-        trace::met::all(),
-    ];
+    let lists =
+        [edges::all(), edges::all_telling(), grounds::all(), merge::met::all(), trace::met::all()];
     for all in lists {
         let names: BTreeSet<&String> = all.iter().collect();
         assert_eq!(names.len(), all.len(), "{all:?}");
@@ -87,11 +82,7 @@ fn edges_of_deliveries() {
         (14, 6, Err(9), ""),
     ] {
         let (grade, volume) = (0, 1);
-        let call = Call::Delivery {
-            grade,
-            stamp,
-            volume,
-        };
+        let call = Call::Delivery { grade, stamp, volume };
         let found = edges::kinds(within(EIGHT), clock, call, reply);
         assert_eq!(found.concat(), kind, "{clock} {stamp}");
     }
@@ -246,12 +237,7 @@ fn kinds_of_replays() {
         (None, 3, NEEDED - 1, "day = count + 1, no such day, no room"),
         (Some((4, 12)), 2, 0, end),
         (Some((9, 0)), 1, NEEDED, kind),
-        (
-            Some((9, 0)),
-            1,
-            NEEDED - 1,
-            &format!("{kind}, no trace, no room"),
-        ),
+        (Some((9, 0)), 1, NEEDED - 1, &format!("{kind}, no trace, no room")),
         // An empty day needs no room, and one that is not laid out has no need that could be told.
         (Some((9, 0)), 0, 0, "a kind in a later day"),
         (Some((3, 9)), 1, 0, "an offset in the day asked for"),

@@ -19,14 +19,7 @@ fn answers_are_counted_by_kind() {
 
 #[test]
 fn long_run_must_show_every_kind() {
-    let mut tally = tally(&[
-        "= 1",
-        "unread",
-        "refused 1",
-        "refused 2",
-        "refused 3",
-        "= 7",
-    ]);
+    let mut tally = tally(&["= 1", "unread", "refused 1", "refused 2", "refused 3", "= 7"]);
     assert!(tally.faults().is_empty());
     tally.add_answer("= 7");
     assert_eq!(tally.faults(), ["never occurred: ok"]);

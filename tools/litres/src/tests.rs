@@ -107,18 +107,11 @@ fn halvings_of_drawn_deliveries() {
     let mut refused = Tally::new(numbers.map(|number| answer(Err(number))), 1);
     let mut splits = Tally::of_splits(1);
     for index in 0..4_000 {
-        let Book {
-            shape, mut words, ..
-        } = Book::draw(random, index);
+        let Book { shape, mut words, .. } = Book::draw(random, index);
         let mut source = Source::new(random.bits(), Makes::Same);
         let call = source.caller(&Words::new(shape, &words)).delivery();
         // Where the interval is full, a clock may be drawn instead.
-        let Call::Delivery {
-            grade,
-            stamp,
-            volume,
-        } = call
-        else {
+        let Call::Delivery { grade, stamp, volume } = call else {
             continue;
         };
         words.resize(lent(random, call, words.len(), 2), 0);

@@ -20,11 +20,7 @@ struct Site {
 
 impl Site {
     fn new() -> Site {
-        Site {
-            book: made(SITE),
-            now: 0,
-            deliveries: Vec::new(),
-        }
+        Site { book: made(SITE), now: 0, deliveries: Vec::new() }
     }
 
     /// Sets the clock, then delivers at each stamp, out of order: every 41st from the first on, then from the

@@ -45,14 +45,8 @@ fn p1_to_p3_and_p6_to_p8_levels() {
 
 #[test]
 fn p4_to_p7_windows() {
-    for (number, window, sum) in [
-        (4, 2, 1),
-        (5, 3, 2),
-        (6, 3, 3),
-        (7, 2, 3),
-        (7, 3, 4),
-        (7, 4, 8),
-    ] {
+    for (number, window, sum) in [(4, 2, 1), (5, 3, 2), (6, 3, 3), (7, 2, 3), (7, 3, 4), (7, 4, 8)]
+    {
         assert_eq!(query(&example(number), 0, window), Ok(sum), "P{number}");
     }
     assert_eq!(query(&example(7), 0, 5), Err(Refused(5)));

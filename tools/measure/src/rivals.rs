@@ -72,11 +72,9 @@ pub trait Calls {
         match call {
             Call::Make { k, n, m, g } => Self::make(book, k, n, m, g).map(done),
             Call::Clock { clock } => Self::clock(book, clock).map(done),
-            Call::Delivery {
-                grade,
-                stamp,
-                volume,
-            } => Self::delivery(book, grade, stamp, volume).map(Answer::Splits),
+            Call::Delivery { grade, stamp, volume } => {
+                Self::delivery(book, grade, stamp, volume).map(Answer::Splits)
+            }
             Call::Query { grade, window } => Self::query(book, grade, window).map(Answer::Sum),
         }
     }

@@ -66,11 +66,9 @@ pub fn perform(words: &mut [u32], call: Call) -> Reply {
     match call {
         Call::Make { k, n, m, g } => make(words, k, n, m, g).map(|()| Answer::Done),
         Call::Clock { clock: new } => clock(words, new).map(|()| Answer::Done),
-        Call::Delivery {
-            grade,
-            stamp,
-            volume,
-        } => deliver(words, grade, stamp, volume).map(Answer::Splits),
+        Call::Delivery { grade, stamp, volume } => {
+            deliver(words, grade, stamp, volume).map(Answer::Splits)
+        }
         Call::Query { grade, window } => query(words, grade, window).map(Answer::Sum),
     }
 }

@@ -31,12 +31,8 @@ pub struct Ground {
 
 impl Ground {
     /// The ground of window 0.
-    pub const OF_WINDOW_ZERO: Ground = Ground {
-        sum: 0,
-        level: 0,
-        limit: 0,
-        finer: Finer::WindowZero,
-    };
+    pub const OF_WINDOW_ZERO: Ground =
+        Ground { sum: 0, level: 0, limit: 0, finer: Finer::WindowZero };
 }
 
 /// The ground of the sum of a window that ends at the clock. It is refused as a query is.
@@ -56,10 +52,5 @@ pub fn ground(words: &[u32], grade: u32, window: u32) -> Result<Ground, u32> {
             (u64::from(shape.k() + 1) << level, Finer::First(first))
         }
     };
-    Ok(Ground {
-        sum: sum_from(shape, clock, opening, &block),
-        level: level as u32,
-        limit,
-        finer,
-    })
+    Ok(Ground { sum: sum_from(shape, clock, opening, &block), level: level as u32, limit, finer })
 }

@@ -29,11 +29,7 @@ impl Bucket {
     /// Two buckets of half the length and half the weight (document 01's halving).
     pub fn split(self) -> [Bucket; 2] {
         let (length, weight) = (self.length / 2, self.weight / 2);
-        [self.offset, self.offset + length].map(|offset| Bucket {
-            offset,
-            length,
-            weight,
-        })
+        [self.offset, self.offset + length].map(|offset| Bucket { offset, length, weight })
     }
 }
 
@@ -50,15 +46,8 @@ pub struct Level {
 impl Level {
     /// The level of this index before any delivery.
     pub fn empty(shape: Shape, index: usize) -> Level {
-        let whole = Bucket {
-            offset: 0,
-            length: shape.interval_ticks(),
-            weight: 0,
-        };
-        Level {
-            first: 0,
-            buckets: if index == 0 { vec![] } else { vec![whole] },
-        }
+        let whole = Bucket { offset: 0, length: shape.interval_ticks(), weight: 0 };
+        Level { first: 0, buckets: if index == 0 { vec![] } else { vec![whole] } }
     }
 
     /// So many decilitres into the level of this index, one after another; how many of them split a
@@ -89,11 +78,7 @@ impl Level {
             Some(slot) => self.buckets[slot].weight += 1,
             None => {
                 let lower = self.buckets.iter().filter(|b| b.offset < offset).count();
-                let made = Bucket {
-                    offset,
-                    length: 1,
-                    weight: 1,
-                };
+                let made = Bucket { offset, length: 1, weight: 1 };
                 self.buckets.insert(lower, made);
             }
         }
@@ -143,19 +128,14 @@ impl Histogram {
     /// The histogram of an interval without deliveries.
     pub fn empty(shape: Shape) -> Histogram {
         let levels = 0..shape.levels();
-        Histogram {
-            total: 0,
-            levels: levels.map(|index| Level::empty(shape, index)).collect(),
-        }
+        Histogram { total: 0, levels: levels.map(|index| Level::empty(shape, index)).collect() }
     }
 
     /// A whole volume into every level; how many buckets were split on all of them.
     pub fn insert(&mut self, shape: Shape, offset: u64, volume: u64) -> u32 {
         self.total += volume;
         let levels = self.levels.iter_mut().enumerate();
-        levels
-            .map(|(index, level)| level.insert(shape, index, offset, volume))
-            .sum()
+        levels.map(|(index, level)| level.insert(shape, index, offset, volume)).sum()
     }
 
     /// The finest level that still keeps every offset from the opening on. Coarser levels can have

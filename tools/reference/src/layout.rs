@@ -16,10 +16,7 @@ pub struct Layout {
 }
 
 /// The layout of books. The constants below that depend on a layout are this one's.
-pub const BOOK: Layout = Layout {
-    number_words: 1,
-    mark: 0,
-};
+pub const BOOK: Layout = Layout { number_words: 1, mark: 0 };
 
 /// Words of the head.
 pub const HEAD_WORDS: usize = 8;

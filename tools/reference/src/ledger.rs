@@ -32,11 +32,7 @@ pub struct Ledger {
 impl Ledger {
     /// The ledger that an accepted make of this shape leaves.
     pub fn new(shape: Shape) -> Ledger {
-        Ledger {
-            shape,
-            clock: 0,
-            entries: Vec::new(),
-        }
+        Ledger { shape, clock: 0, entries: Vec::new() }
     }
 
     /// The shape of the last accepted make.
@@ -69,16 +65,8 @@ impl Ledger {
                 when(clock < self.clock, refusal::CLOCK_BACK)?;
                 self.clock = clock;
             }
-            Call::Delivery {
-                grade,
-                stamp,
-                volume,
-            } => {
-                let entry = Entry {
-                    grade,
-                    stamp,
-                    volume,
-                };
+            Call::Delivery { grade, stamp, volume } => {
+                let entry = Entry { grade, stamp, volume };
                 self.check_delivery(entry)?;
                 self.entries.push(entry);
             }

@@ -20,10 +20,7 @@ pub struct Bench {
 /// A zero buffer, before any make.
 impl Default for Bench {
     fn default() -> Bench {
-        Bench {
-            buffer: vec![0; BUFFER_WORDS],
-            shape: None,
-        }
+        Bench { buffer: vec![0; BUFFER_WORDS], shape: None }
     }
 }
 
@@ -78,11 +75,7 @@ pub fn line(call: Call) -> String {
     match call {
         Call::Make { k, n, m, g } => format!("m {k} {n} {m} {g}"),
         Call::Clock { clock } => format!("c {clock}"),
-        Call::Delivery {
-            grade,
-            stamp,
-            volume,
-        } => format!("d {grade} {stamp} {volume}"),
+        Call::Delivery { grade, stamp, volume } => format!("d {grade} {stamp} {volume}"),
         Call::Query { grade, window } => format!("q {grade} {window}"),
     }
 }
@@ -95,11 +88,7 @@ pub fn parse(line: &[u8]) -> Option<Call> {
     match (command, &numbers[..]) {
         (b"m", &[k, n, m, g]) => Some(Call::Make { k, n, m, g }),
         (b"c", &[clock]) => Some(Call::Clock { clock }),
-        (b"d", &[grade, stamp, volume]) => Some(Call::Delivery {
-            grade,
-            stamp,
-            volume,
-        }),
+        (b"d", &[grade, stamp, volume]) => Some(Call::Delivery { grade, stamp, volume }),
         (b"q", &[grade, window]) => Some(Call::Query { grade, window }),
         _ => None,
     }

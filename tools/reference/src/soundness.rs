@@ -72,10 +72,7 @@ pub fn block_is_sound(shape: Shape, block: &[RawHistogram; 2]) -> bool {
 pub fn block_faults(shape: Shape, block: &[RawHistogram; 2]) -> Vec<Fault> {
     let mut faults = Vec::new();
     for histogram in block {
-        collect(
-            &mut faults,
-            [(Fault::Total, histogram.total <= shape.capacity())],
-        );
+        collect(&mut faults, [(Fault::Total, histogram.total <= shape.capacity())]);
         for (index, level) in histogram.levels.iter().enumerate() {
             collect(&mut faults, any_level(shape, histogram.total, level));
             if index == 0 {
@@ -94,11 +91,7 @@ fn collect<const N: usize>(faults: &mut Vec<Fault>, conditions: [(Fault, bool); 
 }
 
 fn any_level(shape: Shape, total: u64, level: &RawLevel) -> [(Fault, bool); 5] {
-    let zero = Bucket {
-        offset: 0,
-        length: 0,
-        weight: 0,
-    };
+    let zero = Bucket { offset: 0, length: 0, weight: 0 };
     let weights: u128 = level.buckets().iter().map(|b| u128::from(b.weight)).sum();
     let total = u128::from(total);
     let n = u64::from(shape.n());
@@ -118,10 +111,7 @@ fn level_zero(shape: Shape, level: &RawLevel) -> [(Fault, bool); 5] {
     [
         (Fault::First, level.first < shape.interval_ticks()),
         (Fault::Order, rising),
-        (
-            Fault::Offset,
-            buckets.iter().all(|b| kept.contains(&b.offset)),
-        ),
+        (Fault::Offset, buckets.iter().all(|b| kept.contains(&b.offset))),
         (Fault::Tick, buckets.iter().all(|b| b.length == 1)),
         (Fault::Weightless, buckets.iter().all(|b| b.weight >= 1)),
     ]
@@ -137,14 +127,8 @@ fn level_from_one(shape: Shape, index: usize, level: &RawLevel) -> [(Fault, bool
     [
         (Fault::Empty, level.count >= 1),
         (Fault::Start, start.is_none_or(|s| s == level.first)),
-        (
-            Fault::Gap,
-            buckets.windows(2).all(|b| b[0].end() == b[1].offset),
-        ),
-        (
-            Fault::End,
-            end.is_none_or(|end| end == shape.interval_ticks()),
-        ),
+        (Fault::Gap, buckets.windows(2).all(|b| b[0].end() == b[1].offset)),
+        (Fault::End, end.is_none_or(|end| end == shape.interval_ticks())),
         (Fault::Alignment, buckets.iter().all(aligned)),
         (Fault::Heavy, buckets.iter().all(split)),
         (Fault::Light, level.count < 2 || !light),

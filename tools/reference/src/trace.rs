@@ -125,21 +125,8 @@ pub fn call(record: &[u32]) -> Result<Call, usize> {
     };
     let (numbers, call) = match kind {
         CLOCK => (1, Call::Clock { clock: first }),
-        DELIVERY => (
-            3,
-            Call::Delivery {
-                grade: first,
-                stamp: second,
-                volume: third,
-            },
-        ),
-        QUERY => (
-            2,
-            Call::Query {
-                grade: first,
-                window: second,
-            },
-        ),
+        DELIVERY => (3, Call::Delivery { grade: first, stamp: second, volume: third }),
+        QUERY => (2, Call::Query { grade: first, window: second }),
         _ => return Err(0),
     };
     let rest = 1 + numbers..RECORD_WORDS;
@@ -160,11 +147,7 @@ pub fn record(call: Call) -> Option<Record> {
     match call {
         Call::Make { .. } => None,
         Call::Clock { clock } => Some([CLOCK, clock, 0, 0]),
-        Call::Delivery {
-            grade,
-            stamp,
-            volume,
-        } => Some([DELIVERY, grade, stamp, volume]),
+        Call::Delivery { grade, stamp, volume } => Some([DELIVERY, grade, stamp, volume]),
         Call::Query { grade, window } => Some([QUERY, grade, window, 0]),
     }
 }

@@ -55,14 +55,8 @@ pub struct RawHistogram {
 impl RawHistogram {
     /// The histogram without its unused slots.
     pub fn histogram(&self) -> Histogram {
-        let level = |raw: &RawLevel| Level {
-            first: raw.first,
-            buckets: raw.buckets().to_vec(),
-        };
-        Histogram {
-            total: self.total,
-            levels: self.levels.iter().map(level).collect(),
-        }
+        let level = |raw: &RawLevel| Level { first: raw.first, buckets: raw.buckets().to_vec() };
+        Histogram { total: self.total, levels: self.levels.iter().map(level).collect() }
     }
 }
 

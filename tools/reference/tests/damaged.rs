@@ -38,11 +38,7 @@ fn sound_words_that_no_run_reaches_are_accepted() {
     deliver(&mut words, 0, 1, 2).unwrap();
     // Window 0 does not count what lies past the clock either.
     assert_sums(&words, &[(1, 6), (0, 0)]);
-    let expected = [
-        [2, 0, 1, 1, 2, 3, 1, 4],
-        [2, 2, 2, 1, 2, 3, 1, 2],
-        [1, 0, 0, 4, 6, 0, 0, 0],
-    ];
+    let expected = [[2, 0, 1, 1, 2, 3, 1, 4], [2, 2, 2, 1, 2, 3, 1, 2], [1, 0, 0, 4, 6, 0, 0, 0]];
     assert_eq!(words[10..34], expected.concat());
     // In interval 1 the odd histogram goes; the even one still answers as the older one.
     clock(&mut words, 5).unwrap();
@@ -110,12 +106,7 @@ fn grown(source: &mut Source, shape: Shape, most: u64) -> Vec<u32> {
 
 fn source(seed: u64) -> Source {
     let mut source = Source::new(seed, Makes::Same);
-    source.pace = Pace {
-        span: 1 << 40,
-        volume: 3,
-        step_divisor: 4,
-        ..source.pace
-    };
+    source.pace = Pace { span: 1 << 40, volume: 3, step_divisor: 4, ..source.pace };
     source
 }
 

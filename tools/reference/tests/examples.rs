@@ -36,12 +36,7 @@ fn assert_level(words: &[u32], index: usize, first: u64, buckets: &[(u64, u64, u
 }
 
 fn assert_ground(words: &[u32], window: u32, sum: u64, level: u32, limit: u64, finer: Finer) {
-    let expected = Ground {
-        sum,
-        level,
-        limit,
-        finer,
-    };
+    let expected = Ground { sum, level, limit, finer };
     assert_eq!(ground(words, 0, window), Ok(expected), "window {window}");
 }
 
@@ -156,13 +151,7 @@ fn words_of_a_new_book() {
 #[test]
 fn words_of_p3() {
     let whole = [1, 0, 0, 4, 5, 0, 0, 0];
-    let even = [
-        [2, 1, 1, 1, 1, 3, 1, 1],
-        [2, 0, 0, 2, 3, 2, 2, 2],
-        whole,
-        whole,
-        whole,
-    ];
+    let even = [[2, 1, 1, 1, 1, 3, 1, 1], [2, 0, 0, 2, 3, 2, 2, 2], whole, whole, whole];
     let head = vec![2, 2, 4, 1, 3, 0, 0, 0, 5, 0];
     assert_eq!(example(3), [head, even.concat(), empty_half()].concat());
 }

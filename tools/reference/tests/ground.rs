@@ -18,12 +18,7 @@ use reference::words::decode_head;
 const LEVEL_ZERO: Finer = Finer::LevelZero;
 
 fn found(sum: u64, level: u32, limit: u64, finer: Finer) -> Result<Ground, u32> {
-    Ok(Ground {
-        sum,
-        level,
-        limit,
-        finer,
-    })
+    Ok(Ground { sum, level, limit, finer })
 }
 
 #[test]
@@ -81,10 +76,9 @@ fn assert_true_of(words: &[u32], grade: u32, window: u32, ground: Ground) {
     assert!(from[0] <= offset && finer.iter().all(|first| *first > offset));
     let (said, limit) = match finer.last() {
         None => (LEVEL_ZERO, 0),
-        Some(first) => (
-            Finer::First(*first as u32),
-            (1 << ground.level) * (u64::from(shape.k()) + 1),
-        ),
+        Some(first) => {
+            (Finer::First(*first as u32), (1 << ground.level) * (u64::from(shape.k()) + 1))
+        }
     };
     assert_eq!((ground.finer, ground.limit), (said, limit));
 }

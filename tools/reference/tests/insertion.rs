@@ -4,15 +4,8 @@ use reference::histogram::{Bucket, Histogram, Level};
 use reference::shape::Shape;
 
 fn level(first: u64, buckets: &[(u64, u64, u64)]) -> Level {
-    let bucket = |&(offset, length, weight)| Bucket {
-        offset,
-        length,
-        weight,
-    };
-    Level {
-        first,
-        buckets: buckets.iter().map(bucket).collect(),
-    }
+    let bucket = |&(offset, length, weight)| Bucket { offset, length, weight };
+    Level { first, buckets: buckets.iter().map(bucket).collect() }
 }
 
 /// Inserts into one level of shape k = 3, n = 3.

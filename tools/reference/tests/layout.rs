@@ -8,14 +8,8 @@ use reference::shape::Shape;
 use reference::soundness::{block_faults, Fault};
 use reference::words::{decode_head, RawHead, RawHistogram};
 
-const NARROW: Layout = Layout {
-    number_words: 1,
-    mark: 0,
-};
-const WIDE: Layout = Layout {
-    number_words: 2,
-    mark: 2,
-};
+const NARROW: Layout = Layout { number_words: 1, mark: 0 };
+const WIDE: Layout = Layout { number_words: 2, mark: 2 };
 
 fn example() -> Shape {
     shapes::within(shapes::EXAMPLE)
@@ -42,10 +36,9 @@ fn heavy(weight: u64) -> [Histogram; 2] {
 #[test]
 fn lengths_and_places() {
     let shape = example();
-    for (layout, slot, total, level, block, answer) in [
-        (NARROW, 3, 1..2, 18..26, 82, 2),
-        (WIDE, 4, 2..4, 24..34, 104, 3),
-    ] {
+    for (layout, slot, total, level, block, answer) in
+        [(NARROW, 3, 1..2, 18..26, 82, 2), (WIDE, 4, 2..4, 24..34, 104, 3)]
+    {
         assert_eq!(layout.slot_words(), slot);
         assert_eq!(layout.total(1), total);
         assert_eq!(layout.level(shape, 0, 2), level);

@@ -225,19 +225,12 @@ fn small_shapes_stay_within_the_bound() {
 #[test]
 fn long_intervals_stay_within_a_narrow_bound() {
     // 2(k+1)/(n-k-1) is near a third, an eighth and an eleventh.
-    for (seed, numbers, volume) in [
-        (11, [8, 64, 12, 1], 6),
-        (12, [10, 190, 13, 1], 20),
-        (13, [12, 300, 14, 1], 40),
-    ] {
+    for (seed, numbers, volume) in
+        [(11, [8, 64, 12, 1], 6), (12, [10, 190, 13, 1], 20), (13, [12, 300, 14, 1], 40)]
+    {
         let mut run = Run::new(numbers);
         let mut source = source(seed, 3000, volume);
-        source.pace = Pace {
-            edges: 200,
-            step_divisor: 400,
-            leap: 100,
-            ..source.pace
-        };
+        source.pace = Pace { edges: 200, step_divisor: 400, leap: 100, ..source.pace };
         run.steps(&mut source, 9000);
         let (inexact, above) = (run.seen.inexact, run.seen.above);
         assert!(inexact > 50 && above > 0 && above < inexact, "{inexact}");

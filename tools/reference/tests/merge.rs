@@ -103,9 +103,8 @@ fn beside_every_way_to_share_the_records() {
                 continue;
             }
             for number in 0..4usize.pow(length as u32) {
-                let output: Vec<Record> = (0..length)
-                    .map(|place| any[(number >> (2 * place)) & 3])
-                    .collect();
+                let output: Vec<Record> =
+                    (0..length).map(|place| any[(number >> (2 * place)) & 3]).collect();
                 let expected = ways.contains(&output);
                 assert_eq!(merges(first, second, &output), expected, "{output:?}");
                 met[usize::from(expected)] += 1;
@@ -202,12 +201,7 @@ fn the_order_of_refusals() {
     let mut broken = sound.clone();
     *broken.last_mut().unwrap() = 1;
     let disorder = lay_out(&[d(0, 1).to_vec()]);
-    let traces = [
-        (&broken, 0, 13),
-        (&sound, 1, 14),
-        (&disorder, 0, 16),
-        (&sound, 0, 17),
-    ];
+    let traces = [(&broken, 0, 13), (&sound, 1, 14), (&disorder, 0, 16), (&sound, 0, 17)];
     for (first, first_day, one) in traces {
         for (second, second_day, other) in traces {
             let named = [(first, first_day), (second, second_day)];

@@ -28,9 +28,7 @@ fn answers(lines: &[&str]) -> Vec<String> {
 
 /// Lines, each with its answer behind an arrow.
 fn assert_answers(lines: &str) {
-    let pairs = lines
-        .split("; ")
-        .map(|pair| pair.split_once(" > ").unwrap());
+    let pairs = lines.split("; ").map(|pair| pair.split_once(" > ").unwrap());
     let (lines, expected): (Vec<_>, Vec<_>) = pairs.unzip();
     assert_eq!(answers(&lines), expected);
 }

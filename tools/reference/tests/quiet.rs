@@ -55,13 +55,9 @@ impl Both {
 #[test]
 fn p7_has_one_stamp_too_many_for_window_3() {
     let mut p7 = Both::example(5);
-    for (window, stamps, sums) in [
-        (0, 0, [0, 0]),
-        (1, 1, [1, 1]),
-        (2, 2, [3, 3]),
-        (3, 3, [4, 5]),
-        (4, 4, [8, 8]),
-    ] {
+    for (window, stamps, sums) in
+        [(0, 0, [0, 0]), (1, 1, [1, 1]), (2, 2, [3, 3]), (3, 3, [4, 5]), (4, 4, [8, 8])]
+    {
         p7.assert_row(0, window, stamps, sums);
         assert_eq!(p7.ledger.is_short(window), window <= 2);
         assert_eq!(p7.ledger.promises_exact(0, window), window <= 2);

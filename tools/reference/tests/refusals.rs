@@ -167,13 +167,8 @@ fn edges_of_clocks() {
 
 #[test]
 fn edges_of_windows_and_grades() {
-    for (window, answer) in [
-        (0, Ok(0)),
-        (1, Ok(16)),
-        (4, Ok(16)),
-        (5, Err(5)),
-        (u32::MAX, Err(5)),
-    ] {
+    for (window, answer) in [(0, Ok(0)), (1, Ok(16)), (4, Ok(16)), (5, Err(5)), (u32::MAX, Err(5))]
+    {
         assert_eq!(query(&book(), 1, window), answer, "window {window}");
         let sum = ground(&book(), 1, window).map(|ground| ground.sum);
         assert_eq!(sum, answer, "window {window}");

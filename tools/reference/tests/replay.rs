@@ -40,13 +40,7 @@ fn a_day_is_a_part_of_the_trace() {
 
 #[test]
 fn no_traces() {
-    let none: [&[u32]; 5] = [
-        &[],
-        &[0, 0],
-        &[65],
-        &[1, 3, 4, 3, 0, 2, 1],
-        &[1, 3, 4, 4, 0, 0, 0],
-    ];
+    let none: [&[u32]; 5] = [&[], &[0, 0], &[65], &[1, 3, 4, 3, 0, 2, 1], &[1, 3, 4, 4, 0, 0, 0]];
     for trace in none {
         assert_eq!(find_day(trace, 0), Err(13), "{trace:?}");
     }

@@ -22,16 +22,8 @@ fn small() -> Shape {
 /// A sound book of the small shape at clock 7. The even histogram has evicted nothing, the odd one
 /// has on levels 0 and 1.
 fn sound() -> Vec<u32> {
-    let even = [
-        [1, 0, 0, 1, 4, 0, 0, 0],
-        [2, 0, 0, 2, 2, 2, 2, 2],
-        [1, 0, 0, 4, 4, 0, 0, 0],
-    ];
-    let odd = [
-        [2, 1, 1, 1, 1, 3, 1, 1],
-        [2, 2, 2, 1, 2, 3, 1, 2],
-        [1, 0, 0, 4, 4, 0, 0, 0],
-    ];
+    let even = [[1, 0, 0, 1, 4, 0, 0, 0], [2, 0, 0, 2, 2, 2, 2, 2], [1, 0, 0, 4, 4, 0, 0, 0]];
+    let odd = [[2, 1, 1, 1, 1, 3, 1, 1], [2, 2, 2, 1, 2, 3, 1, 2], [1, 0, 0, 4, 4, 0, 0, 0]];
     let head = vec![2, 2, 2, 1, 7, 0, 0, 0, 4, 4];
     [head, even.concat(), odd.concat()].concat()
 }

@@ -16,9 +16,7 @@ use reference::words::decode_block;
 /// The splits of each level for a volume in a fresh half.
 fn of_levels(shape: Shape, offset: u64, volume: u64) -> Vec<u32> {
     let levels = 0..shape.levels();
-    levels
-        .map(|index| Level::empty(shape, index).insert(shape, index, offset, volume))
-        .collect()
+    levels.map(|index| Level::empty(shape, index).insert(shape, index, offset, volume)).collect()
 }
 
 #[test]

@@ -116,10 +116,7 @@ fn broken_layouts_are_explained() {
     for (content, reason) in [
         (with(3, 6), "word 3: day 1 starts at 6, not 5"),
         (with(9, 4), "word 9: day 1 has a record of kind 4"),
-        (
-            with(24, 7),
-            "word 24: day 1 has a record with 7 in place of 0",
-        ),
+        (with(24, 7), "word 24: day 1 has a record with 7 in place of 0"),
         (half.to_vec(), "98 bytes are no whole 32-bit words"),
         (vec![], "there is no word, not even a count of days"),
     ] {

@@ -41,9 +41,8 @@ const EDGES: [&str; 12] = [
 /// No line that reads is longer.
 const LONGEST: &[u8] = b"m 4294967295 4294967295 4294967295 4294967295";
 
-const COMMANDS: [&[u8]; 14] = [
-    b"", b"M", b"C", b"D", b"Q", b"x", b"0", b"mm", b"cd", b"\"c\"", b"#", b"=", b"ok", b"\xffd",
-];
+const COMMANDS: [&[u8]; 14] =
+    [b"", b"M", b"C", b"D", b"Q", b"x", b"0", b"mm", b"cd", b"\"c\"", b"#", b"=", b"ok", b"\xffd"];
 
 /// A hostile line, made from the line of a call.
 pub fn line(random: &mut Random, call: &[u8]) -> Vec<u8> {
@@ -169,7 +168,5 @@ fn any_byte(random: &mut Random) -> u8 {
 }
 
 fn fields(call: &[u8]) -> Vec<Vec<u8>> {
-    call.split(|byte| *byte == b' ')
-        .map(<[u8]>::to_vec)
-        .collect()
+    call.split(|byte| *byte == b' ').map(<[u8]>::to_vec).collect()
 }

@@ -33,9 +33,7 @@ const WAYS: [Way; 23] = [
     ("no ASCII", |l| l.len() < 50 && !l.is_ascii()),
     ("letter in a number", |l| holds(l, b"1a")),
     ("sign", |l| holds(l, b" +1") || holds(l, b" -1")),
-    ("large letter", |l| {
-        l.starts_with(b"D ") || l.starts_with(b"C ")
-    }),
+    ("large letter", |l| l.starts_with(b"D ") || l.starts_with(b"C ")),
     ("no space", |l| l.starts_with(b"d0")),
     ("command alone", |l| l == b"q"),
     ("2^32", |l| holds(l, b"4294967296")),
@@ -83,14 +81,7 @@ impl Step<'_> {
         match (self.call, answer) {
             (Call::Make { k, n, m, g }, _) => self.make(Shape::new(k, n, m, g).expect("accepted")),
             (Call::Clock { clock }, _) => self.clock(clock),
-            (
-                Call::Delivery {
-                    grade,
-                    stamp,
-                    volume,
-                },
-                _,
-            ) => self.delivery(grade, stamp, volume),
+            (Call::Delivery { grade, stamp, volume }, _) => self.delivery(grade, stamp, volume),
             (Call::Query { grade, window }, Answer::Sum(sum)) => self.question(grade, window, sum),
             (Call::Query { .. }, _) => panic!("a question answers a sum"),
         }
@@ -242,12 +233,7 @@ fn each_call(script: &[u8], mut show: impl FnMut(Step)) {
             None if reply.is_ok() => ledger = asked.map(Ledger::new),
             None => {}
             Some(ledger) => {
-                show(Step {
-                    call,
-                    reply,
-                    before: ledger,
-                    words: &before,
-                });
+                show(Step { call, reply, before: ledger, words: &before });
                 let noted = ledger.perform(call, borrowed);
                 assert_eq!(noted.err(), reply.err(), "{call:?}");
             }

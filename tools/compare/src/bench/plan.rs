@@ -14,11 +14,7 @@ pub struct Plan {
 impl Plan {
     /// So many scripts with so many lines in all.
     pub fn new(seed: u64, lines: u64, scripts: u64) -> Plan {
-        Plan {
-            random: Random::new(seed),
-            lines_left: lines,
-            scripts_left: scripts,
-        }
+        Plan { random: Random::new(seed), lines_left: lines, scripts_left: scripts }
     }
 
     /// Some scripts are empty, some hold a few lines, some are longer than a reader's chunks.

@@ -34,10 +34,7 @@ fn not_run(error: &io::Error) -> Vec<u8> {
 }
 
 fn start(program: &OsStr) -> io::Result<Child> {
-    Command::new(program)
-        .stdin(Stdio::piped())
-        .stdout(Stdio::piped())
-        .spawn()
+    Command::new(program).stdin(Stdio::piped()).stdout(Stdio::piped()).spawn()
 }
 
 fn output(program: &OsStr, script: &[u8]) -> io::Result<Output> {
@@ -69,11 +66,7 @@ struct Dialogue {
 
 impl Dialogue {
     fn new(child: Child, patience: Duration) -> Dialogue {
-        Dialogue {
-            child,
-            patience,
-            said: Vec::new(),
-        }
+        Dialogue { child, patience, said: Vec::new() }
     }
 
     fn run(mut self, script: &[u8]) -> Vec<u8> {

@@ -22,11 +22,7 @@ impl Caller<'_> {
             let clock = self.leap();
             return Call::Clock { clock };
         }
-        Call::Delivery {
-            grade,
-            stamp,
-            volume: self.volume(room),
-        }
+        Call::Delivery { grade, stamp, volume: self.volume(room) }
     }
 
     /// Anywhere that is not late, often recent or where something stands already.
@@ -56,13 +52,7 @@ impl Caller<'_> {
             1..=2 => oldest.saturating_sub(random.pick(&[1, 1, few])),
             3..=4 => random.pick(&[now, oldest, oldest, oldest.wrapping_add(1)]),
             5 => random.pick(&[start, start.saturating_sub(1), before, before.max(1) - 1]),
-            6 => random.pick(&[
-                u32::MAX,
-                u32::MAX - ticks,
-                u32::MAX - ticks + 1,
-                1 << 31,
-                next,
-            ]),
+            6 => random.pick(&[u32::MAX, u32::MAX - ticks, u32::MAX - ticks + 1, 1 << 31, next]),
             _ => random.pick(&[0, ticks, ticks - 1, any]),
         }
     }

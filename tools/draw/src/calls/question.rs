@@ -8,10 +8,7 @@ use super::Caller;
 impl Caller<'_> {
     /// A question.
     pub fn question(&mut self) -> Call {
-        Call::Query {
-            grade: self.grade(),
-            window: self.window(),
-        }
+        Call::Query { grade: self.grade(), window: self.window() }
     }
 
     /// Any window, often one that opens where something stands or a tick beside it.

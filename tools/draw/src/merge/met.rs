@@ -14,11 +14,8 @@ use crate::tally::{first_that_holds, names, that_hold, Cases};
 const OWN: [u32; 4] = [0, refusal::TRACE, refusal::DAY, refusal::ORDER];
 const SIDES: [&str; 2] = ["the first day", "the second day"];
 /// In the order of `Disorder`.
-const DISORDERS: [&str; 3] = [
-    "opens without a clock",
-    "has a clock that falls",
-    "has a clock past the limit",
-];
+const DISORDERS: [&str; 3] =
+    ["opens without a clock", "has a clock that falls", "has a clock past the limit"];
 
 /// Every kind that there is.
 pub fn all() -> Vec<String> {

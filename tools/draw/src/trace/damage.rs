@@ -83,9 +83,7 @@ fn with_days(trace: &mut Vec<u32>, change: impl FnOnce(&mut Vec<Vec<u32>>)) {
 fn one_day_too_many(random: &mut Random, trace: &mut Vec<u32>) {
     let last = [Vec::new(), vec![CLOCK, 0, 0, 0]];
     let last = &last[random.below(2) as usize];
-    with_days(trace, |days| {
-        days.resize(DAYS_MAX as usize + 1, last.clone())
-    });
+    with_days(trace, |days| days.resize(DAYS_MAX as usize + 1, last.clone()));
 }
 
 fn count_word(random: &mut Random, trace: &mut [u32]) {

@@ -11,13 +11,8 @@ use super::records;
 use crate::tally::{first_that_holds, names, that_hold, Cases};
 
 /// Faults of a trace as a whole.
-const WHOLE: [&str; 5] = [
-    "no words",
-    "65 days",
-    "more than 65 days",
-    "pairs missing",
-    "a word that follows",
-];
+const WHOLE: [&str; 5] =
+    ["no words", "65 days", "more than 65 days", "pairs missing", "a word that follows"];
 /// Faults of a day, and where that day stands.
 const OF_A_DAY: [&str; 7] = [
     "an offset",
@@ -31,11 +26,7 @@ const OF_A_DAY: [&str; 7] = [
 const PLACES: [&str; 3] = ["the day asked for", "an earlier day", "a later day"];
 /// A later refusal holds as well. There is no room where the day that is laid out needs more answer words
 /// than there are, or the last day where there is no such day.
-const TWICE: [&str; 3] = [
-    "no trace, no such day",
-    "no trace, no room",
-    "no such day, no room",
-];
+const TWICE: [&str; 3] = ["no trace, no such day", "no trace, no room", "no such day, no room"];
 
 /// Every kind that there is.
 pub fn all() -> Vec<String> {

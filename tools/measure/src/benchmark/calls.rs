@@ -46,11 +46,8 @@ const CALLS: Form = Form {
 
 /// The static library, asked for a sum and for its ground.
 const QUESTION_AND_GROUND: [Timed; 2] = [Timed::Calls(library), Timed::Calls(ground)];
-const GROUNDS: Form = Form {
-    columns: &["question", "ground"],
-    ratios: &[("ground / question", 1, 0)],
-    digits: 3,
-};
+const GROUNDS: Form =
+    Form { columns: &["question", "ground"], ratios: &[("ground / question", 1, 0)], digits: 3 };
 
 /// The static library, call by call and by a replay.
 const CALLS_AND_REPLAY: [Timed; 2] = [Timed::Calls(library), Timed::Replay];

@@ -37,11 +37,7 @@ impl Load {
         let stamp = clock.saturating_sub(self.random.below(ticks + 1) as u32);
         let most = 2 * self.mean() - 1;
         let volume = volume.unwrap_or_else(|| 1 + self.random.below(most) as u32);
-        Call::Delivery {
-            grade,
-            stamp,
-            volume,
-        }
+        Call::Delivery { grade, stamp, volume }
     }
 
     fn mean(&self) -> u64 {

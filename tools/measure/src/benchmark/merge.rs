@@ -17,10 +17,7 @@ const RECORDS: usize = 100_000;
 /// The time of twice the records is there for a record, and as it is beside that of the records.
 const FORM: Form = Form {
     columns: &["copy", "merge", "merge of twice the records"],
-    ratios: &[
-        ("merge / copy", 1, 0),
-        ("time for twice the records / for the records", 3, 1),
-    ],
+    ratios: &[("merge / copy", 1, 0), ("time for twice the records / for the records", 3, 1)],
     digits: 2,
 };
 
@@ -70,11 +67,7 @@ impl Pair {
         let (mut expected, day) = (output.clone(), 0);
         let days = traces.each_ref().map(|trace| Named { trace, day });
         reference::merge::merge(days, &mut expected).expect(IN_ORDER);
-        Pair {
-            traces,
-            expected,
-            output,
-        }
+        Pair { traces, expected, output }
     }
 
     fn merge(&mut self) {

@@ -35,12 +35,7 @@ impl<T> Table<T> {
     /// The title says what is timed, and the unit; the head what the first column says. Where it is empty there
     /// is no such column.
     pub fn new(title: String, head: &'static str, form: &'static Form, rows: Vec<Row<T>>) -> Self {
-        Table {
-            title,
-            head,
-            form,
-            rows,
-        }
+        Table { title, head, form, rows }
     }
 
     /// The same table with the times of its rows, which are taken from these.
@@ -171,10 +166,7 @@ fn verdicts_of_targets_and_of_a_second_run() {
         let row = format!("| two days: merge / copy | 1.05 | {verdict} |\n");
         assert!(targets(&[table(merge)]).ends_with(&row), "{verdict}");
     }
-    for (merge, row, verdict) in [
-        (2.2, "1.100 | +10.0", "met"),
-        (1.6, "0.800 | -20.0", "missed"),
-    ] {
+    for (merge, row, verdict) in [(2.2, "1.100 | +10.0", "met"), (1.6, "0.800 | -20.0", "missed")] {
         let said = moved(&[table(2.0)], &[table(merge)]);
         assert!(said.contains(&format!("| 1.000 | {row} % |\n")), "{said}");
         let end = format!("; at most 15 %: {verdict}.\n");

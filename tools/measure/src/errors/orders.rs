@@ -9,9 +9,8 @@ use reference::window::window_from;
 use super::observe::{CAPACITY, TICKS};
 
 /// The orders of the picture.
-pub const ORDERS: [fn(u64) -> Order; 9] = [
-    prompt, hourly, uniform, reverse, late, inwards, heavy_tick, extremes, aimed,
-];
+pub const ORDERS: [fn(u64) -> Order; 9] =
+    [prompt, hourly, uniform, reverse, late, inwards, heavy_tick, extremes, aimed];
 
 /// What the picture and the table call a kind of orders, and its colour in the picture.
 #[derive(Clone, Copy, PartialEq, Eq)]
@@ -38,11 +37,7 @@ impl Order {
 }
 
 pub fn delivery(stamp: u32, volume: u32) -> Call {
-    Call::Delivery {
-        grade: 0,
-        stamp,
-        volume,
-    }
+    Call::Delivery { grade: 0, stamp, volume }
 }
 
 pub fn question(window: u32) -> Call {
@@ -66,9 +61,8 @@ fn questions(random: &mut Random, clock: u32, ticks: &[u32]) -> Vec<Call> {
 
 const HOUR: u32 = 3600;
 /// Cars by hour of the day.
-const CARS: [u32; 24] = [
-    3, 2, 2, 2, 4, 12, 35, 50, 45, 28, 22, 24, 30, 26, 22, 26, 40, 55, 48, 30, 18, 12, 8, 5,
-];
+const CARS: [u32; 24] =
+    [3, 2, 2, 2, 4, 12, 35, 50, 45, 28, 22, 24, 30, 26, 22, 26, 40, 55, 48, 30, 18, 12, 8, 5];
 
 /// Draws two numbers for one.
 type Draw = fn(&mut Random, u32) -> (u32, u32);

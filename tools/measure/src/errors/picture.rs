@@ -111,10 +111,8 @@ fn on_log_scale(number: f64, low: f64, high: f64) -> f64 {
 }
 
 fn axes() -> String {
-    let rows = [
-        (EXACT_ROW, EXACT_COLOUR, "found exact"),
-        (PROVED_ROW, PROVED_COLOUR, "proved exact"),
-    ];
+    let rows =
+        [(EXACT_ROW, EXACT_COLOUR, "found exact"), (PROVED_ROW, PROVED_COLOUR, "proved exact")];
     let rows = rows.map(|(top, colour, text)| {
         let label = label_beside(top + ROW / 2.0, text);
         format!("<rect y=\"{top}\" width=\"{WIDTH}\" height=\"{ROW}\" fill=\"{colour}\"/>{label}")

@@ -39,10 +39,7 @@ impl Share {
 
     fn counts(&self) -> String {
         let [exact, proved] = self.in_percent();
-        format!(
-            "{:>8} {:>7}, {exact:>5} {:>7}, {proved:>5}",
-            self.answers, self.exact, self.proved
-        )
+        format!("{:>8} {:>7}, {exact:>5} {:>7}, {proved:>5}", self.answers, self.exact, self.proved)
     }
 }
 
@@ -58,10 +55,7 @@ pub fn row(order: &Order, observed: &Observed) -> String {
     let (counts, worst) = (Share::of([observed]).counts(), observed.worst());
     let start = format!("{:36} {:>10} {counts}", order.name, observed.deliveries);
     let error = percent(worst.relative_error());
-    format!(
-        "{start} {error:>15}  {} s, {} dl",
-        worst.window, worst.truth
-    )
+    format!("{start} {error:>15}  {} s, {} dl", worst.window, worst.truth)
 }
 
 /// The shares of each kind of order and of all orders.

@@ -7,12 +7,7 @@ use draw::shapes::SITE;
 use reference::calls::Call;
 
 fn observation((truth, answer, proved_exact): (u64, u64, bool)) -> Observation {
-    Observation {
-        window: 60_000,
-        truth,
-        answer,
-        proved_exact,
-    }
+    Observation { window: 60_000, truth, answer, proved_exact }
 }
 
 /// Four answers to windows with a delivery: two that are exact, one of them proved to be, and two others.
@@ -20,10 +15,7 @@ fn observed() -> Observed {
     let (exact, off) = ((1_000, 1_000, false), (1_000_000, 1_030_000, false));
     let others = [(0, 0, true), (10, 10, true), (2_000_000, 1_999_999, false)];
     let observations = [&others[..2], &[exact, off], &others[2..]].concat();
-    Observed {
-        deliveries: 3,
-        observations: observations.into_iter().map(observation).collect(),
-    }
+    Observed { deliveries: 3, observations: observations.into_iter().map(observation).collect() }
 }
 
 fn order(kind: usize, calls: &[Call]) -> Order {

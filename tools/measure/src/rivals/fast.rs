@@ -53,11 +53,7 @@ impl Calls for Fast {
         let bound = |bits: u32| (u64::from(least) + u64::from(bits)) * buckets.len() as u64;
         let is_enough = |bits: u32| first != 0 && bound(bits) <= total.into();
         let bounded = is_enough(above - 1);
-        let run = if bounded {
-            Spans::run::<false>
-        } else {
-            Spans::run::<true>
-        };
+        let run = if bounded { Spans::run::<false> } else { Spans::run::<true> };
         let seen = run(first, least, above, buckets)?;
         let sound = seen.faults == 0
             && seen.bits < WRAPPING
@@ -268,11 +264,7 @@ fn gap(offset: u32, length: u32, next: u32) -> u32 {
 /// or where offset and length are 0, which only those of a first bucket can be.
 #[inline(always)]
 fn span(offset: u32, length: u32, extra: u32, above: u32) -> u32 {
-    let heavy = if extra as i32 > above as i32 - 1 {
-        u32::MAX
-    } else {
-        0
-    };
+    let heavy = if extra as i32 > above as i32 - 1 { u32::MAX } else { 0 };
     (offset | length | heavy) & length.wrapping_sub(1)
 }
 

@@ -81,21 +81,12 @@ fn every_slot_and_every_bit_of_a_level() {
     let mut verdicts = [0; 2];
     let counts = [5, 16, 17, 33, 53, 62].map(|count| (12, count));
     let counts = counts.iter().chain(&[(4, 16), (6, 64)]);
-    let levels = [
-        (0, 1, 9),
-        (0, 1, 99),
-        (3, 1, 9),
-        (3, 1, 24),
-        (3, 4, 14),
-        (3, 4, 999),
-    ];
+    let levels = [(0, 1, 9), (0, 1, 99), (3, 1, 9), (3, 1, 24), (3, 4, 14), (3, 4, 999)];
     for ((k, count), (index, length, each)) in counts.flat_map(|c| levels.map(|l| (*c, l))) {
         // In an interval of as many ticks as buckets nothing was evicted, so that the sum is the total.
         let (total, first) = (each * count, (1u32 << k).saturating_sub(length * count));
         let book = &mut half(k, count, total);
-        let level: Vec<_> = (0..count)
-            .map(|slot| [first + length * slot, length, 8])
-            .collect();
+        let level: Vec<_> = (0..count).map(|slot| [first + length * slot, length, 8]).collect();
         let mut check = |change: &dyn Fn(&mut [[u32; 3]])| {
             let mut changed = level.clone();
             change(&mut changed);

@@ -34,11 +34,7 @@ pub fn assert_sums(words: &[u32], sums: &[(u32, u64)]) {
 }
 
 pub fn delivery(grade: u32, stamp: u32, volume: u32) -> Call {
-    Call::Delivery {
-        grade,
-        stamp,
-        volume,
-    }
+    Call::Delivery { grade, stamp, volume }
 }
 
 /// A book and the ledger of the same calls.
@@ -49,10 +45,7 @@ pub struct Both {
 
 impl Both {
     pub fn new(numbers: Numbers) -> Both {
-        Both {
-            words: made(numbers),
-            ledger: Ledger::new(within(numbers)),
-        }
+        Both { words: made(numbers), ledger: Ledger::new(within(numbers)) }
     }
 
     /// The example's book at clock 3, after the first of its deliveries.

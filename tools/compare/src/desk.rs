@@ -182,7 +182,7 @@ impl<'i> Desk<'i> {
         })
     }
 
-    /// The same, where a trace is checked after the replay.
+    /// The same for words that are lent; `check_trace` says whether those of the trace are as they were.
     fn replay(
         &mut self,
         asked: Asked,

@@ -46,4 +46,7 @@ fn splits_of_accepted_deliveries_are_counted() {
     let shown = "no split: 2, one split: 0, several splits: 2";
     assert_eq!(tally.to_string(), shown);
     assert_eq!(tally.faults(), ["never occurred: one split"]);
+    assert_eq!(tally.faults_below(2), ["never occurred: one split"]);
+    let rare = ["only 2: no split", "never occurred: one split", "only 2: several splits"];
+    assert_eq!(tally.faults_below(3), rare);
 }

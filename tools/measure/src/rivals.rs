@@ -13,7 +13,7 @@ mod tests;
 
 use std::ops::Range;
 
-use reference::calls::{open, Answer, Call, Reply};
+use reference::calls::{Answer, Call, Reply};
 use reference::layout;
 use reference::refusal::{self, when};
 use reference::shape::Shape;
@@ -149,6 +149,16 @@ pub trait Calls {
         let whole = if opened == now { 0 } else { block[now] };
         Ok(u64::from(whole) + sum_from(shape, block, opening))
     }
+}
+
+/// The refusals that clock, delivery and query share: too short for a head, head, length.
+fn open(book: &[u32]) -> Result<(Shape, u32), u32> {
+    let head = book.first_chunk::<{ layout::HEAD_WORDS }>();
+    let &[k, n, m, g, clock, a, b, c] = head.ok_or(refusal::LENGTH)?;
+    let shape = Shape::new(k, n, m, g).ok_or(refusal::HEAD)?;
+    when(clock > Shape::CLOCK_MAX || a | b | c != 0, refusal::HEAD)?;
+    when(book.len() != shape.book_length(), refusal::LENGTH)?;
+    Ok((shape, clock))
 }
 
 /// Empties one half of a block: only count and length of each first bucket are not zero.

@@ -156,7 +156,7 @@ pub fn sum_from(shape: Shape, clock: u32, opening: u64, block: &[Histogram; 2]) 
 }
 
 /// The refusals that clock, delivery and query share: too short for a head, head, length.
-pub fn open(words: &[u32]) -> Result<(Shape, u32), u32> {
+fn open(words: &[u32]) -> Result<(Shape, u32), u32> {
     when(words.len() < layout::HEAD_WORDS, refusal::LENGTH)?;
     let (shape, clock) = sound_head(decode_head(words)).ok_or(refusal::HEAD)?;
     when(words.len() != shape.book_length(), refusal::LENGTH)?;

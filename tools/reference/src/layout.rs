@@ -1,5 +1,5 @@
 //! How many words each part of a book, of a trace and of an answer has, and where they stand (document
-//! 01, "The book"; document 02, request Two). Nothing else in this crate counts words.
+//! 01, "The book"; document 02, request Two). Nothing else in this crate counts them.
 
 use std::ops::Range;
 

@@ -1,6 +1,6 @@
 //! One day from two (document 02, request Five): when a merge is refused, which outputs are a merged day, and
-//! which clock each of its records meets. Which of several merged days a merge writes is undecided, so
-//! there is no merge here to compare words with: an output is judged as it is.
+//! which clock each of its records meets. Which of several merged days a merge writes is undecided, so an output
+//! is judged as it is, and not compared with the one that is written here.
 
 use crate::calls::{perform, Call};
 use crate::layout;

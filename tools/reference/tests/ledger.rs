@@ -79,6 +79,9 @@ impl Run {
                     self.late.push(stamp);
                 }
             }
+            (Call::Delivery { .. }, Ok(Answer::Splits(splits))) => {
+                assert!(splits <= self.ledger.shape().k() * self.ledger.shape().m());
+            }
             (Call::Query { grade, window }, Ok(Answer::Sum(sum))) => {
                 assert_eq!(self.words, before);
                 let exact = self.ledger.window_sum(grade, window);
@@ -360,4 +363,5 @@ fn the_bound_is_a_bound() {
     assert!(ledger.admits(10, 30) && ledger.admits(10, 0));
     assert!(!ledger.admits(10, 31) && !ledger.admits(0, 1));
     assert!(Ledger::new(within([5, 6, 9, 1])).admits(u64::MAX >> 8, 0));
+    assert!(!Ledger::new(within([2, 4, 9, 1])).admits(1, 8));
 }

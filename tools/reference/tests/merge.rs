@@ -6,7 +6,7 @@ mod common;
 use common::{feed, made};
 use draw::shapes::EXAMPLE;
 use reference::merge::{
-    home_clocks, judge, length, merged_clocks, met_clocks, sources, Disorder, Named,
+    home_clocks, judge, length, merge, merged_clocks, met_clocks, sources, Disorder, Named,
 };
 use reference::shape::Shape;
 use reference::trace::{lay_out, Record};
@@ -42,7 +42,12 @@ const EVEN: [Record; 2] = [[1, 2, 0, 0], [2, 0, 0, 7]];
 fn one_outcome_where_no_clock_is_in_both_days() {
     let [one, five, three, asked] = ODD;
     let [two, seven] = EVEN;
-    assert!(merges(&ODD, &EVEN, &[one, five, two, seven, three, asked]));
+    let right = [one, five, two, seven, three, asked];
+    assert!(merges(&ODD, &EVEN, &right));
+    let traces = [lay_out(&[ODD.concat()]), lay_out(&[EVEN.concat()])];
+    let mut output = [0; 24];
+    assert_eq!(merge(traces.each_ref().map(|trace| Named { trace, day: 0 }), &mut output), Ok(()));
+    assert_eq!(output[..], right.concat());
     // A delivery that is out of its clock, though every clock record is in order.
     assert!(!merges(&ODD, &EVEN, &[one, two, five, seven, three, asked]));
     assert!(!merges(&ODD, &EVEN, &[one, five, two, three, seven, asked]));

@@ -47,6 +47,7 @@ impl Both {
     /// So many stamps, at most n, of a window above n, and the exact sum.
     fn assert_wide_and_exact(&mut self, grade: u32, window: u32, stamps: usize, sum: u64) {
         assert!(!self.ledger.is_short(window) && self.ledger.is_quiet(grade, window));
+        assert!(self.ledger.promises_exact(grade, window));
         self.assert_row(grade, window, stamps, [sum, sum]);
     }
 }

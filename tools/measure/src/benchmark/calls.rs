@@ -208,7 +208,7 @@ impl<'a> Work<'a> {
             let time = time(batch.len(), || match self.timed[timed] {
                 Timed::Calls(perform) => {
                     for (call, answer) in batch.iter().zip(answers.chunks_mut(ANSWER_WORDS)) {
-                        let reply = perform(black_box(book), *black_box(call));
+                        let reply = black_box(perform(black_box(book), *black_box(call)));
                         answer.copy_from_slice(&answer_words(reply));
                         if let Ok(Answer::Splits(more)) = reply {
                             *splits.get_or_insert(0) += more;

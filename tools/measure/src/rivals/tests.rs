@@ -108,8 +108,9 @@ fn every_slot_and_every_bit_of_a_level() {
                 });
             }
             let most = total - 8 * (count - 1);
-            check(&|level| level[slot][2] = most);
-            check(&|level| level[slot][2] = most + 1);
+            for weight in [15, 16, most, most + 1] {
+                check(&|level| level[slot][2] = weight);
+            }
         }
     }
     assert!(verdicts[0].min(verdicts[1]) > 1000, "{verdicts:?}");

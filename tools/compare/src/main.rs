@@ -164,10 +164,7 @@ fn keep(seed: u64, number: u64, script: &[u8]) -> io::Result<PathBuf> {
 
 #[test]
 fn the_usual_runs() {
-    let is_usual = |words: &str| {
-        let options = read(Words::new(words.split_whitespace()));
-        options.map_err(|trouble| panic!("{trouble}")).is_ok_and(|options| options.is_usual)
-    };
+    let is_usual = |words: &str| read(Words::new(words.split_whitespace())).unwrap().is_usual;
     for words in ["bench a", "books", "replays", "merges", "books --trials 24000 --seed 1"] {
         assert!(is_usual(words), "{words}");
     }

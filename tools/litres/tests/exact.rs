@@ -1,9 +1,9 @@
 //! Exact sums on the site shape (document 02, request Seven): every window of up to n ticks on a busy book,
 //! and a wide window over a stretch with few stamps.
 
-mod common;
+mod books;
 
-use common::made;
+use books::made;
 use draw::shapes::SITE;
 use litres::{clock, delivery, query};
 

@@ -1,9 +1,9 @@
 //! The examples of document 01 through the archive, with the windows and the lateness of document 02,
 //! request One, and the halvings of request Four. The grounds of request Six are in the crate's first page.
 
-mod common;
+mod books;
 
-use common::{after, made, DELIVERIES, EXAMPLE};
+use books::{after, made, DELIVERIES, EXAMPLE};
 use litres::{clock, delivery, ground, make, query, Refused};
 
 /// Words of a level with two slots.

@@ -1,19 +1,19 @@
 //! Traces through the archive: the week of docs/SPECIFICATION.md, 18. Drawn traces are replayed through the same
 //! calls by `compare replays`.
 
-mod common;
+mod books;
 
-use common::made;
+use books::made;
 use draw::trace::EXAMPLE;
 use litres::{find_day, replay, Refused};
 
 #[test]
 fn the_example() {
-    let mut book = made(common::EXAMPLE);
+    let mut book = made(books::EXAMPLE);
     let mut answers = [7; 11];
     assert_eq!(replay(&mut book, &EXAMPLE, 1, &mut answers), Ok(()));
     assert_eq!(answers, [0, 0, 0, 0, 0, 0, 0, 0, 0, 1, 7]);
-    let mut second = made(common::EXAMPLE);
+    let mut second = made(books::EXAMPLE);
     reference::replay::replay(&mut second, &EXAMPLE, 1, &mut [7; 10]).unwrap();
     assert_eq!(book, second);
 }
@@ -54,9 +54,9 @@ fn a_word_changed() {
 
 #[test]
 fn an_empty_day_needs_no_room() {
-    let mut book = made(common::EXAMPLE);
+    let mut book = made(books::EXAMPLE);
     assert_eq!(replay(&mut book, &EXAMPLE, 0, &mut []), Ok(()));
-    assert_eq!(book, made(common::EXAMPLE));
+    assert_eq!(book, made(books::EXAMPLE));
     assert_eq!(replay(&mut [], &EXAMPLE, 0, &mut []), Ok(()));
     assert_eq!(replay(&mut [], &[0], 0, &mut []), Err(Refused::DAY));
     assert_eq!(replay(&mut [], &[], 0, &mut []), Err(Refused::TRACE));

@@ -1,8 +1,8 @@
 //! What the clock empties: nothing, one histogram of every grade, or both.
 
-mod common;
+mod books;
 
-use common::made;
+use books::made;
 use draw::shapes::{within, Numbers};
 use reference::calls::{clock, deliver, query};
 use reference::histogram::Histogram;

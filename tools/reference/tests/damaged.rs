@@ -1,9 +1,9 @@
 //! Words that no call wrote: sound books that no run of calls reaches, random words, damaged books,
 //! and deliveries beside the damaged block of another grade.
 
-mod common;
+mod books;
 
-use common::{assert_sums, made};
+use books::{assert_sums, made};
 use draw::calls::Source;
 use draw::damage::any_word;
 use draw::pace::Pace;

@@ -2,9 +2,9 @@
 //! windows answer and which stamps are late is document 02's, request One, how many buckets a delivery
 //! splits request Four, and what the ground of a sum is request Six.
 
-mod common;
+mod books;
 
-use common::{assert_sums, delivery, feed, made, Both, DELIVERIES};
+use books::{assert_sums, delivery, feed, made, Both, DELIVERIES};
 use draw::shapes::{within, EXAMPLE, SITE};
 use reference::calls::{clock, deliver, query, Answer};
 use reference::ground::{ground, Finer, Ground};

@@ -2,9 +2,9 @@
 //! levels, on books of every kind; and which sums a limit admits. The worked rows are in examples.rs, the
 //! refusals in refusals.rs, runs beside the ledger in ledger.rs.
 
-mod common;
+mod books;
 
-use common::{feed, made, Both, DELIVERIES};
+use books::{feed, made, Both, DELIVERIES};
 use draw::grounds::{all, draw, firsts, kinds};
 use draw::random::Random;
 use draw::shapes::EXAMPLE;

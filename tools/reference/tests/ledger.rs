@@ -2,9 +2,9 @@
 //! where that is promised, grounds within their limits, late deliveries never missed, levels near the
 //! truth, and every grown block sound.
 
-mod common;
+mod books;
 
-use common::{delivery, made};
+use books::{delivery, made};
 use draw::calls::Source;
 use draw::pace::Pace;
 use draw::random::Random;

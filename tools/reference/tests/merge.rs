@@ -1,9 +1,9 @@
 //! Merges: the refusals and their order, outputs that are a merged day and outputs that are none, and the
 //! clocks that records meet.
 
-mod common;
+mod books;
 
-use common::{feed, made};
+use books::{feed, made};
 use draw::shapes::EXAMPLE;
 use reference::merge::{
     home_clocks, judge, length, merge, merged_clocks, met_clocks, sources, Disorder, Named,

@@ -1,13 +1,13 @@
 //! The line protocol: which lines are read, what each one is given, and the program itself.
 
-mod common;
+mod books;
 
 use std::io::{BufRead, BufReader, Write};
 use std::process::{Child, ChildStdin, ChildStdout, Command, Stdio};
 use std::sync::mpsc::channel;
 use std::time::Duration;
 
-use common::delivery;
+use books::delivery;
 use draw::calls::{call_of, Source};
 use draw::shapes::{within, Makes, EXAMPLE};
 use reference::calls::Call;

@@ -1,9 +1,9 @@
 //! Exact on quiet grades (document 02, request Seven): which stamps are counted, that the book's sum is the
 //! ledger's where they are at most n, and that n + 1 are too many. Random runs are in ledger.rs.
 
-mod common;
+mod books;
 
-use common::{Both, DELIVERIES};
+use books::{Both, DELIVERIES};
 use draw::calls::call_of;
 use draw::shapes::EXAMPLE;
 use reference::calls::{Answer, Call};

@@ -1,9 +1,9 @@
 //! The order of refusals, one call after another with fewer and fewer reasons, and the exact edge
 //! of each condition. A ground is refused as the query of the same numbers.
 
-mod common;
+mod books;
 
-use common::{assert_sums, delivery, made};
+use books::{assert_sums, delivery, made};
 use draw::calls::call_of;
 use draw::shapes::{within, Numbers};
 use reference::calls::{clock, deliver, perform, query, Answer, Call};

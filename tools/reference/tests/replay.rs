@@ -1,8 +1,8 @@
 //! Finding a day and replaying it: the example, the refusals and their order, and what is written.
 
-mod common;
+mod books;
 
-use common::{assert_sums, feed};
+use books::{assert_sums, feed};
 use draw::book::Book;
 use draw::random::Random;
 use draw::shapes;
@@ -12,7 +12,7 @@ use reference::replay::{answer_words, calls, find_day, replay, ANSWER_WORDS};
 use reference::trace::{lay_out, Record};
 
 fn made() -> Vec<u32> {
-    common::made(shapes::EXAMPLE)
+    books::made(shapes::EXAMPLE)
 }
 
 #[test]

@@ -1,9 +1,9 @@
 //! Every condition of a sound head and of a sound block broken alone, and numbers that are right
 //! only modulo 2^32.
 
-mod common;
+mod books;
 
-use common::{assert_sums, made};
+use books::{assert_sums, made};
 use draw::shapes::within;
 use reference::calls::{clock, deliver, make, query};
 use reference::layout;

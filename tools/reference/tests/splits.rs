@@ -1,8 +1,8 @@
 //! How many buckets a delivery splits (document 02's halvings, request Four).
 
-mod common;
+mod books;
 
-use common::{delivery, made};
+use books::{delivery, made};
 use draw::random::Random;
 use draw::shapes::{self, within};
 use draw::sound;

@@ -1,9 +1,9 @@
 //! Windows and lateness as document 02, request One, has them: which stamps a window covers, where
 //! it opens, and that windows laid end to end count each delivery once.
 
-mod common;
+mod books;
 
-use common::{assert_sums, feed, made};
+use books::{assert_sums, feed, made};
 use reference::calls::{clock, query, Call};
 use reference::ledger::Ledger;
 use reference::shape::Shape;

@@ -1,4 +1,6 @@
 // The bench program (SPECIFICATION 11): calls over standard input, one to a line, and their answers over standard output.
+#![tactic(auto)]
+
 ghost use Rattle.std.specs.Prelude.{◌≡◌, ◌*◌, ◌≤◌, ◌<◌, length};
 ghost use Rattle.session.specs.Protocol.{zero_buffer};
 

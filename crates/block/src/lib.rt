@@ -1,4 +1,6 @@
 // Reading one grade's block, on its part of the words: its soundness, its room, its sums.
+#![tactic(auto)]
+
 ghost use Rattle.std.specs.Prelude.{◌≡◌, ◌+◌, ◌%◌, ◌^◌, ◌≤◌, ltb, length, get_or};
 ghost use Rattle.shape.specs.Layout.{block_head_len, total_start};
 ghost use Rattle.model.specs.Words.{level_part, decode_half, decode_block};

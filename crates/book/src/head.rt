@@ -8,7 +8,7 @@ use model::{MAX_CLOCK, Refusal};
 use shape::{Checked, HEAD_LEN, Shape};
 
 // What opening a book, or judging a call, answers: the shape and the clock of the book, or the refusal.
-#[derive(Drop)]
+#[derive(Clone, Copy)]
 pub enum Opened {
     Book { shape: Shape, clock: u32 },
     Refused(Refusal),

@@ -1,4 +1,6 @@
 // Reading a book: its head, and its blocks as parts of it.
+#![tactic(auto)]
+
 mod head;
 mod part;
 

@@ -1,4 +1,6 @@
 // Putting buckets into the slots of one level, and splitting them. If there is no room, the lowest bucket is evicted.
+#![tactic(auto)]
+
 ghost use Rattle.std.specs.Prelude.{cond, [], ◌∷◌, ◌≡◌, ◌+◌, ◌-◌, ◌*◌, ◌/◌, ◌^◌, ◌<◌, ◌≤◌, eqb, length, get_or, set};
 ghost use Rattle.shape.specs.Layout.{level_head_len, slot_len, slot_start};
 ghost use Rattle.model.specs.Level.{bucket_of};

@@ -1,5 +1,7 @@
 // The calls for programs in C and Rust: SPECIFICATION 12. A slice is a pointer and a length for them. Each call but `litres_words` returns 0
 // or the number of the refusal.
+#![tactic(auto)]
+
 ghost use Rattle.std.specs.Prelude.{◌≡◌, cond};
 ghost use Rattle.shape.specs.Limits.{within, shaped, number_only};
 ghost use Rattle.shape.specs.Layout.{book_words};

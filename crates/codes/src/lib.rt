@@ -1,5 +1,7 @@
 // The number of a refusal (SPECIFICATION 6.2), the number and the splits of an answer (5.1), and the values of what a ground says of the
 // next finer level (20.2); used by `text`, `replay`, `ground` and `capi`.
+#![tactic(auto)]
+
 ghost use Rattle.std.specs.Prelude.{◌≡◌, get_or};
 ghost use Rattle.model.specs.Reply.{number_of, reply_of};
 ghost use Rattle.model.specs.Ground.{finer_values};

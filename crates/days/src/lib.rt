@@ -1,4 +1,6 @@
 // Reading a trace: the pair of a day, the words of a day, its records, and a record as a call (SPECIFICATION 16.1 and 16.2).
+#![tactic(auto)]
+
 ghost use Rattle.std.specs.Prelude.{◌≡◌, ◌+◌, ◌*◌, ◌≤◌, length, take, drop};
 ghost use Rattle.model.specs.Trace.{record_words, record_at, sound_record, call_of, sound_day, pair_start};
 ghost use Rattle.days.specs.Pair.{pair_at};
@@ -7,7 +9,7 @@ use model::{CLOCK_KIND, Call, DELIVERY_KIND, QUERY_KIND, RECORD_WORDS, Record};
 use words::{both, wide};
 
 // Where a day starts in the trace, and how many words it has.
-#[derive(Drop)]
+#[derive(Clone, Copy)]
 pub struct Pair {
     pub start: u32,
     pub length: u32,

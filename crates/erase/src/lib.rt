@@ -1,4 +1,6 @@
 // Emptying one grade's block, on its part of the words: the whole block, or the halves that the clock empties.
+#![tactic(auto)]
+
 ghost use Rattle.std.specs.Prelude.{◌≡◌, ◌≤◌, length, replicate};
 ghost use Rattle.shape.specs.Layout.{level_words};
 ghost use Rattle.model.specs.Words.{decode_block, encode_block};

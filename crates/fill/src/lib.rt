@@ -1,4 +1,6 @@
 // A delivery into one block: each level of the stamp's half is handed on as a part of the block.
+#![tactic(auto)]
+
 ghost use Rattle.std.specs.Prelude.{◌≡◌, ◌≤◌};
 ghost use Rattle.model.specs.Level.{insert, insert_splits};
 ghost use Rattle.model.specs.Block.{deliver, deliver_splits};

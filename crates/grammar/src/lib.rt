@@ -1,15 +1,17 @@
 // What a line of the bench program asks for, and the state of reading one.
+#![tactic(auto)]
+
 use model::Call;
 
 // What a line asks for: SPECIFICATION 11.3.
-#[derive(Drop)]
+#[derive(Clone, Copy)]
 pub enum Parsed {
     Read(Call),
     Unread,
 }
 
 // The numbers before the current one.
-#[derive(Drop)]
+#[derive(Clone, Copy)]
 pub enum Numbers {
     None,
     One(u32),
@@ -18,7 +20,7 @@ pub enum Numbers {
 }
 
 // How much of a line has been read.
-#[derive(Drop)]
+#[derive(Clone, Copy)]
 pub enum State {
     // No byte yet.
     Start,

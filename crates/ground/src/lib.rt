@@ -1,4 +1,6 @@
 // The ground of a sum: the level used, F of the next finer level, the limit of error (SPECIFICATION 20). No word of the book is written.
+#![tactic(auto)]
+
 ghost use Rattle.std.specs.Prelude.{◌≡◌, ◌≤◌, ◌<◌, length};
 ghost use Rattle.model.specs.Words.{decode_half, decode_block};
 ghost use Rattle.model.specs.Ground.{error_limit, finer_than, ground_of, ground_reply, ground_values, ground};

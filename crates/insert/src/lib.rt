@@ -1,4 +1,6 @@
 // Writing one level of a histogram, on its part of the words: SPECIFICATION 4.5 and 4.6.
+#![tactic(auto)]
+
 ghost use Rattle.std.specs.Prelude.{true, ◌≡◌, ◌+◌, ◌^◌, ◌<◌, ◌≤◌, length, get_or};
 ghost use Rattle.shape.specs.Layout.{slot_start};
 ghost use Rattle.model.specs.Level.{insert, insert_splits};
@@ -15,7 +17,7 @@ use words::{long, power, wide};
 
 // How an insertion goes on after a split: what is left to insert, the slot of the half that spans the offset, and whether this half was
 // kept. If it was evicted (document 01's 'given up'), the slot means nothing and the rest is ignored.
-#[derive(Drop)]
+#[derive(Clone, Copy)]
 struct Onward {
     rest: u64,
     slot: usize,

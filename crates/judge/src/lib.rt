@@ -1,4 +1,6 @@
 // Judging a call on a book: its refusals in the order of SPECIFICATION 6.3, before a word is written.
+#![tactic(auto)]
+
 mod admit;
 
 ghost use Rattle.std.specs.Prelude.{◌≡◌};

@@ -1,4 +1,6 @@
 // What a line does to the bench program's buffer (SPECIFICATION 11.2): how many words its call is lent, the call on them, and the answer.
+#![tactic(auto)]
+
 ghost use Rattle.std.specs.Prelude.{◌≡◌, ◌≤◌, min, length};
 ghost use Rattle.model.specs.Reply.{reply_of};
 ghost use Rattle.model.specs.Calls.{outcome_of};
@@ -10,14 +12,14 @@ use model::{Answer, Call};
 use shape::{Checked, Shape};
 
 // The answer to a line.
-#[derive(Drop)]
+#[derive(Clone, Copy)]
 pub enum Said {
     Answer(Answer),
     Unread,
 }
 
 // The answer to a line, and how many words are lent after it.
-#[derive(Drop)]
+#[derive(Clone, Copy)]
 pub struct Answered {
     pub said: Said,
     pub lent: usize,

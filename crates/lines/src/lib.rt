@@ -1,4 +1,6 @@
 // One line of the bench program, from bytes to a call, byte by byte.
+#![tactic(auto)]
+
 ghost use Rattle.std.specs.Prelude.{◌≡◌};
 ghost use Rattle.grammar.specs.Grammar.{grammar, reading_of};
 ghost use Rattle.lines.specs.Bytes.{started, stepped, finished};
@@ -7,7 +9,7 @@ use grammar::{Parsed, State};
 use reader::{advance, call};
 
 // A line of any length, as far as it has been read.
-#[derive(Drop)]
+#[derive(Clone, Copy)]
 pub struct Line {
     state: State,
 }

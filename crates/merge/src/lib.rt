@@ -1,5 +1,7 @@
 // One day from two traces (SPECIFICATION 19). At equal clock it takes the records of the first-named trace first: `merge_first` promises it,
 // `merge` does not.
+#![tactic(auto)]
+
 ghost use Rattle.std.specs.Prelude.{true, ◌≡◌, ◌+◌, ◌<◌, ltb, eqb};
 ghost use Rattle.model.specs.Calls.{outcome_of};
 ghost use Rattle.model.specs.Reply.{reply_of};

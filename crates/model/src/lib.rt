@@ -1,6 +1,8 @@
 // A call with its numbers, which may be any; why a call, finding a day, a replay or a merge is refused (SPECIFICATION 6.2, in the order of the
 // numbers 1 to 17); the answer to a call; the ground of a sum (SPECIFICATION 20); and a record of a trace (SPECIFICATION 16.2).
-#[derive(Drop)]
+#![tactic(auto)]
+
+#[derive(Clone, Copy)]
 pub enum Call {
     Make { k: u32, n: u32, m: u32, g: u32 },
     Clock { clock: u32 },
@@ -8,7 +10,7 @@ pub enum Call {
     Query { grade: u32, window: u32 }, // The customer's question.
 }
 
-#[derive(Drop)]
+#[derive(Clone, Copy)]
 pub enum Refusal {
     Shape, // The shape is outside its limits.
     Length, // The words are not as many as the shape needs.
@@ -29,7 +31,7 @@ pub enum Refusal {
     Output, // The output is not as long as the two days together.
 }
 
-#[derive(Drop)]
+#[derive(Clone, Copy)]
 pub enum Answer {
     Done, // A make, a clock, a replay or a merge.
     Splits(u32), // A delivery: how many buckets it split.
@@ -38,7 +40,7 @@ pub enum Answer {
 }
 
 // F of the next finer level, or why it is not told.
-#[derive(Drop)]
+#[derive(Clone, Copy)]
 pub enum Finer {
     WindowZero, // The window is 0, so no level was read.
     LevelZero, // Level 0 was used for another window; no level is finer.
@@ -46,7 +48,7 @@ pub enum Finer {
 }
 
 // The ground of a sum: the sum, the level used, the limit of error, and F of the next finer level.
-#[derive(Drop)]
+#[derive(Clone, Copy)]
 pub struct Ground {
     pub sum: u64,
     pub level: u8,
@@ -54,14 +56,14 @@ pub struct Ground {
     pub finer: Finer,
 }
 
-#[derive(Drop)]
+#[derive(Clone, Copy)]
 pub enum Grounded {
     Given(Ground),
     Refused(Refusal),
 }
 
 // A record's kind and its call's numbers; the rest is zero.
-#[derive(Drop)]
+#[derive(Clone, Copy)]
 pub struct Record {
     pub kind: u32,
     pub first: u32,

@@ -1,4 +1,6 @@
 // The clocks of a day's records, and whether the day may be merged (SPECIFICATION 19.1 and 19.3).
+#![tactic(auto)]
+
 ghost use Rattle.std.specs.Prelude.{◌≡◌};
 ghost use Rattle.model.specs.Trace.{records_of};
 ghost use Rattle.model.specs.Merge.{clock_after, orderly, mergeable};

@@ -1,4 +1,6 @@
 // The exact pass over the buckets of a level: it decides whether they are sound, and adds their weights.
+#![tactic(auto)]
+
 ghost use Rattle.std.specs.Prelude.{◌≡◌, ◌+◌, ◌*◌, ◌≤◌, length, slice_index};
 ghost use Rattle.model.specs.Words.{slots};
 ghost use Rattle.words.specs.Slot.{content};

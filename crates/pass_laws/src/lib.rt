@@ -1,6 +1,8 @@
 // What the exact pass over the buckets of a level has collected. A fault does not end the pass, since it must run without a branch, four
 // slots at a time. So everything is in words of 32 bits and is tested once a level.
-#[derive(Drop)]
+#![tactic(auto)]
+
+#[derive(Clone, Copy)]
 pub struct Seen {
     // Where the next bucket must start; at level 0 the least offset that it may have.
     pub end: u32,
@@ -19,7 +21,7 @@ pub struct Seen {
 }
 
 // The weight of a level's buckets, and whether they are sound.
-#[derive(Drop)]
+#[derive(Clone, Copy)]
 pub struct Verdict {
     pub weight: u64,
     pub sound: bool,

@@ -1,4 +1,6 @@
 // The check of a level's buckets: the quick pass first, and the exact pass if its tests fail.
+#![tactic(auto)]
+
 ghost use Rattle.std.specs.Prelude.{◌≡◌, ◌+◌, ◌*◌, ◌%◌, ◌^◌, ◌≤◌, ◌&&◌, length, nat_le, slice_index};
 ghost use Rattle.model.specs.Words.{slots};
 ghost use Rattle.model.specs.Sound.{weight_of, sound_buckets};

@@ -1,6 +1,8 @@
 // What the quick pass over the buckets of a level from 1 on has collected. It makes fewer tests than the exact pass, and they ask more than
 // soundness does: if one fails, the exact pass decides.
-#[derive(Drop)]
+#![tactic(auto)]
+
+#[derive(Clone, Copy)]
 pub struct Quick {
     // Where the next bucket must start.
     pub end: u32,
@@ -14,7 +16,7 @@ pub struct Quick {
 }
 
 // What the quick pass has collected in four rows of slots at once, each for itself.
-#[derive(Drop)]
+#[derive(Clone, Copy)]
 pub struct Rows {
     pub one: Quick,
     pub two: Quick,

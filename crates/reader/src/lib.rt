@@ -1,4 +1,6 @@
 // Reading a line of the bench program (SPECIFICATION 11.3): one more byte, and the call that a letter and its numbers make.
+#![tactic(auto)]
+
 ghost use Rattle.std.specs.Prelude.{◌≡◌, ◌∷◌, [], ◌++◌};
 ghost use Rattle.grammar.specs.Grammar.{is_digit, called, reading_of};
 ghost use Rattle.grammar.specs.Machine.{numbers_of, spaced, grown, moved};

@@ -1,4 +1,6 @@
 // A day of a trace replayed on a book: each record's call, and its answer in two words (SPECIFICATION 17).
+#![tactic(auto)]
+
 ghost use Rattle.std.specs.Prelude.{◌≡◌, map, ◌+◌, ◌*◌, ◌^◌, ◌≤◌, ◌<◌, length, get_or, set};
 ghost use Rattle.model.specs.Reply.{reply_of};
 ghost use Rattle.model.specs.Calls.{perform};

@@ -1,4 +1,6 @@
 // What the quick pass collects of a bucket, of a row of four slots, and of a turn of four rows.
+#![tactic(auto)]
+
 ghost use Rattle.std.specs.Prelude.{◌≡◌, ◌+◌, ◌≤◌, length};
 ghost use Rattle.words.specs.Slot.{content};
 ghost use Rattle.quick_laws.specs.Quick.{mask, quick_bucket};

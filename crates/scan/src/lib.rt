@@ -1,4 +1,6 @@
 // Reading one level of a histogram, on its part of the words: the bucket that spans an offset, and the sum from an opening.
+#![tactic(auto)]
+
 ghost use Rattle.std.specs.Prelude.{◌≡◌, cond, ◌+◌, ◌*◌, ◌^◌, ◌<◌, ◌≤◌, leb, length, get_or};
 ghost use Rattle.shape.specs.Layout.{slot_start};
 ghost use Rattle.model.specs.Words.{decode_level};
@@ -27,7 +29,7 @@ fn is_past(level: &[u32], high: usize, step: usize, x: u32) -> bool
 }
 
 // The buckets of the slots before `low` end at or before an offset, those of the slots from `high` on end after it.
-#[derive(Drop)]
+#[derive(Clone, Copy)]
 struct Span {
     low: usize,
     high: usize,

@@ -1,4 +1,6 @@
 // The bench program between its input and its output, byte by byte: SPECIFICATION 11.
+#![tactic(auto)]
+
 ghost use Rattle.std.specs.Prelude.{◌≡◌, ℕ, ◌+◌, ◌*◌, ◌≤◌, length, take};
 ghost use mathlib.Core.List.{List, ◌++◌, foldl};
 ghost use Rattle.text.specs.Text.{written, stored};
@@ -10,7 +12,7 @@ use lent::Said;
 use lines::Line;
 
 // The state between two bytes of the input. The buffer of words and the bytes of the output are lent beside it.
-#[derive(Drop)]
+#[derive(Clone, Copy)]
 pub struct Session {
     // The line as far as it has been read, and whether it has a byte.
     line: Line,

@@ -1,4 +1,6 @@
 // The shape of a book: its limits, and how many words its parts take.
+#![tactic(auto)]
+
 ghost use Rattle.std.specs.Prelude.{◌≡◌};
 ghost use Rattle.shape.specs.Layout.{book_words, block_words, block_start, level_words, level_start};
 ghost use Rattle.shape.specs.Limits.{between, reply_of, checked};
@@ -17,7 +19,7 @@ pub const SLOT_LEN: usize = 3;
 
 // The shape of a book: SPECIFICATION 2.2. Only what `Shape::new` gives is held to the limits, and only that has the lengths of SPECIFICATION
 // 3.6. Every method is defined on any fields.
-#[derive(Drop)]
+#[derive(Clone, Copy)]
 pub struct Shape {
     // An interval is 2 ^ k ticks.
     pub k: u8,
@@ -32,7 +34,7 @@ pub struct Shape {
 }
 
 // What the constructor answers.
-#[derive(Drop)]
+#[derive(Clone, Copy)]
 pub enum Checked {
     Within(Shape),
     Outside,

@@ -1,4 +1,6 @@
 // Whether the words of one level are sound: SPECIFICATION 7.3.
+#![tactic(auto)]
+
 ghost use Rattle.std.specs.Prelude.{◌≡◌, ◌&&◌, ◌≤◌, eqb, length, drop};
 ghost use Rattle.shape.specs.Layout.{level_words};
 ghost use Rattle.model.specs.Sound.{zeros, sound_level};

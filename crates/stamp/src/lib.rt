@@ -1,5 +1,7 @@
 // The interval of a stamp and its offset there (SPECIFICATION 2.3), the parity of the half that serves an interval, and the first stamp of a
 // window (SPECIFICATION 5.5).
+#![tactic(auto)]
+
 ghost use Rattle.std.specs.Prelude.{◌≡◌, ◌%◌, ◌≤◌, ◌<◌};
 ghost use Rattle.model.specs.Block.{interval, offset_of, opening};
 

@@ -1,5 +1,7 @@
 // The calls on a whole book: make, clock, delivery and question (SPECIFICATION 5). Each takes words of any length and content and any
 // numbers. A refused call changes no word.
+#![tactic(auto)]
+
 ghost use Rattle.std.specs.Prelude.{◌≡◌};
 ghost use Rattle.model.specs.Words.{shape_of};
 ghost use Rattle.model.specs.Reply.{reply_of};

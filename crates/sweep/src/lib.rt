@@ -1,4 +1,6 @@
 // Writing a whole book: the head, and every block from grade 0 on, one part of the words after the other.
+#![tactic(auto)]
+
 mod head;
 
 ghost use Rattle.std.specs.Prelude.{◌≡◌, ◌++◌, length, take, true};

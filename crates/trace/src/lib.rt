@@ -1,4 +1,6 @@
 // A trace of recorded days: the check of its layout, and a day as a part of the caller's words (SPECIFICATION 16).
+#![tactic(auto)]
+
 ghost use Rattle.std.specs.Prelude.{true, ◌≡◌, ◌≤◌, length};
 ghost use Rattle.model.specs.Sound.{all_from};
 ghost use Rattle.model.specs.Trace.{sound_day, pair_start, day_part, laid, sound_trace, day_reply, found_day};
@@ -9,7 +11,7 @@ use model::{MAX_DAYS, Refusal};
 use words::wide;
 
 // What finding a day answers.
-#[derive(Drop)]
+#[derive(Clone, Copy)]
 pub enum Found {
     At(Pair),
     Refused(Refusal),

@@ -1,4 +1,6 @@
 // The quick pass over the buckets of a level: sixteen slots a turn, then the slots that are left, one by one.
+#![tactic(auto)]
+
 ghost use Rattle.std.specs.Prelude.{◌≡◌, ◌+◌, ◌-◌, ◌*◌, ◌<◌, ◌≤◌, ◌&&◌, length, ◌==◌, nat_le};
 ghost use Rattle.model.specs.Words.{slots};
 ghost use Rattle.quick_laws.specs.Quick.{fresh, mark, quick_each};
@@ -56,7 +58,7 @@ fn goes_on(t: Rows, at: usize, count: usize) -> bool
 }
 
 // The rows, and how many slots they have read.
-#[derive(Drop)]
+#[derive(Clone, Copy)]
 struct Turned {
     rows: Rows,
     at: usize,

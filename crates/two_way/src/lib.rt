@@ -1,5 +1,7 @@
 // The two-way merge of the records of two days by their clocks. At equal clock it takes those of the first day first. Only `merge` uses it: a
 // caller is not promised this order.
+#![tactic(auto)]
+
 ghost use Rattle.std.specs.Prelude.{◌≡◌, ◌++◌, ◌+◌, ◌*◌, ◌%◌, ◌≤◌, ◌<◌, length, take};
 ghost use Rattle.model.specs.Trace.{record_words};
 ghost use Rattle.days.specs.Records.{record_count};
@@ -12,7 +14,7 @@ use order::clock_after;
 
 // Where the merge stands: i records of the first day are taken, the last of them at clock c, and j of the second, the last at clock d. Where
 // none is taken yet, the clock is 0.
-#[derive(Drop)]
+#[derive(Clone, Copy)]
 pub struct Place {
     pub i: usize,
     pub c: u32,

@@ -1,4 +1,6 @@
 // What several crates do with words: a word as a number of another type, a power of two, the words of a slot, and two Booleans joined.
+#![tactic(auto)]
+
 ghost use Rattle.std.specs.Prelude.{◌≡◌, ◌&&◌, ◌+◌, ◌*◌, ◌^◌, ◌<◌, ◌≤◌, length, drop};
 ghost use Rattle.shape.specs.Layout.{slot_len, slot_start};
 ghost use Rattle.model.specs.Words.{slot};
@@ -41,7 +43,7 @@ pub fn implied(a: bool, b: bool) -> bool
 }
 
 // The words of one slot.
-#[derive(Drop)]
+#[derive(Clone, Copy)]
 pub struct Slot {
     pub offset: u32,
     pub width: u32,

@@ -141,12 +141,11 @@ module _ (s : Shape) (h : Half) (z : HalfSized s h) where
     sound_half_placed : sound_half s parity ws ≡ (leb h.total (2 ^ s.m) && all_from (λ i. sound_content s i h.total (z.level_at i)) 0 (suc s.last))
     unfolding sound_half
     sound_half_placed =
-        rw (
-          w.total,
-          all_from_cong
-              (λ i. sound_level s i h.total (level_part s parity i ws))
-              (λ i. sound_content s i h.total (z.level_at i)) 0 (suc s.last) sound_level_parts,
-        )
+        ap (λ (t : ℕ). leb t (2 ^ s.m) && all_from (λ i. sound_level s i t (level_part s parity i ws)) 0 (suc s.last)) w.total
+        ∙ ap (λ (b : Bool). leb h.total (2 ^ s.m) && b)
+        (all_from_cong
+        (λ i. sound_level s i h.total (level_part s parity i ws))
+        (λ i. sound_content s i h.total (z.level_at i)) 0 (suc s.last) sound_level_parts)
 
 -- ---- a block and its words
 

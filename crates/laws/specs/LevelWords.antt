@@ -58,7 +58,9 @@ slots-flat [] u v j h = refl
 slots-flat (b ∷ bs) u v j h =
     let e : slots ((u ++ slot_words b) ++ (flat bs ++ v)) (j + 1) (length bs) ≡ bs =
     slots-flat bs (u ++ slot_words b) v (j + 1) (simp length-append (omega arith)) in
-    rw (slot_at u (flat bs ++ v) b j h, ← append_assoc u (slot_words b) (flat bs ++ v), e)
+    let rest : slots (u ++ (slot_words b ++ (flat bs ++ v))) (j + 1) (length bs) ≡ bs = rw (← append_assoc u (slot_words b) (flat bs ++ v)) e in
+    let first : slot (u ++ (slot_words b ++ (flat bs ++ v))) j ≡ b = slot_at u (flat bs ++ v) b j h in
+    ap (λ (x : Bucket). x ∷ slots (u ++ (slot_words b ++ (flat bs ++ v))) (j + 1) (length bs)) first ∙ ap (λ (xs : List Bucket). b ∷ xs) rest
 
 -- ---- encoding, then decoding
 

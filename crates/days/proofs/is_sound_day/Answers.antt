@@ -1,6 +1,6 @@
 -- The records that are left to test at i and those passed give the whole test.
 use native.Mathlib.Omega.{arith}
-use borrow.Author.Tests.{eq-eqb, ne_eqb, not-true, not-false}
+use borrow.Author.Tests.{eq-eqb, ne_eqb}
 use mathlib.Core.Path.{sym, ◌∙◌}
 use Prim.Native.Nat.{◌/◌}
 use lib.ListN.{length}
@@ -22,13 +22,13 @@ loop-i-init c =
 pub returns-then-not-is_sound_record : goal.returns-then-not-is_sound_record
 returns-then-not-is_sound_record c =
     let day = c.args.day.now in
-    let failed = sym c.is_sound_record.ensures ∙ not-true _ c.if-not-is_sound_record.true in
+    let failed = sym c.is_sound_record.ensures ∙ c.if-not-is_sound_record.true in
     rw (all_left_step (sound day) c.loop-i.i (length day / record_words) c.loop-i-test.true, ← c.record_at.ensures, failed) at c.loop-i.invariant.1
 
 pub loop-i-preserved : goal.loop-i-preserved
 loop-i-preserved c =
     let day = c.args.day.now in
-    let passed = sym c.is_sound_record.ensures ∙ not-false _ c.if-not-is_sound_record.false in
+    let passed = sym c.is_sound_record.ensures ∙ c.if-not-is_sound_record.false in
     (omega arith, rw (all_left_step (sound day) c.loop-i.i (length day / record_words) c.loop-i-test.true, ← c.record_at.ensures, passed) at c.loop-i.invariant.1)
 
 pub returns : goal.returns

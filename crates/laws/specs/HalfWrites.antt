@@ -8,7 +8,7 @@ use Rattle.shape.specs.declared.Shape.{Shape}
 use Rattle.shape.specs.Layout.{total_start, level_words, block_words}
 use Rattle.model.specs.Level.{Level, empty_level}
 use Rattle.model.specs.Block.{Half, Block, up_from, interval, half_of, with_half, empty_half, advance}
-use Rattle.model.specs.BlockLaws.{empties_same, empties_next, empties_other}
+use Rattle.model.proofs.BlockLaws.{empties_same, empties_next, empties_other}
 use Rattle.model.specs.Words.{level_part, decode_level, decode_half, decode_block, encode_level, encode_block}
 use Rattle.model.specs.Sound.{sound_half}
 use Rattle.laws.specs.Cond.{lt_or_ge}

@@ -2,7 +2,7 @@
 use Rattle.std.specs.Prelude.{true, false, cond, ◌≡◌, ◌⊎◌, ℕ, ◌+◌, ◌-◌, ◌%◌, ◌≤◌, ◌<◌, eqb}
 use Rattle.std.proofs.Common.{ap, ◌∙◌, inl, inr, ⊎_elim, arith, eq-eqb, ne_eqb}
 use Rattle.model.specs.Block.{empties}
-use Rattle.model.specs.BlockLaws.{empties_same, empties_next, empties_other, empties_skipped}
+use Rattle.model.proofs.BlockLaws.{empties_same, empties_next, empties_other, empties_skipped}
 use Rattle.laws.specs.Cond.{lt_or_ge, eq_or_ne, by_eq}
 
 -- the interval that a half serves while the clock is in interval `now`: that one or the one before. In interval 0 the odd half has served

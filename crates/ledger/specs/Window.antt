@@ -9,7 +9,7 @@ use native.Mathlib.Omega.{arith}
 use Rattle.std.proofs.lemmas.Bool.{lt-leb}
 use Rattle.shape.specs.declared.Shape.{Shape}
 use Rattle.model.specs.Block.{Half, interval, offset_of, opening, answer, window_sum, sum_from, serving, serving_index}
-use Rattle.model.specs.BlockLaws.{covers-none, window_sum-none, window_sum_some}
+use Rattle.model.proofs.BlockLaws.{covers-none, window_sum-none, window_sum_some}
 use Rattle.model.specs.Ledger.{Entry, Ledger, volume_of, of_interval, of_window}
 use Rattle.model.specs.Ground.{opened_levels, level_for, error_limit}
 use Rattle.model.specs.Claim.{Each, Admits, Near}

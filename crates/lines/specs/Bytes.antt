@@ -6,7 +6,7 @@ use Rattle.shape.specs.Limits.{Reply}
 use Rattle.grammar.specs.declared.State.TheVariants.{Start}
 use Rattle.grammar.specs.Grammar.{grammar}
 use Rattle.grammar.specs.Machine.{moved, ended}
-use Rattle.grammar.specs.Reading.{left, at_start, at_end, one_byte}
+use Rattle.grammar.proofs.Reading.{left, at_start, at_end, one_byte}
 use Rattle.lines.specs.declared.Line.{Line}
 
 -- a line before its first byte

@@ -1,7 +1,6 @@
 pub mod Level
 pub mod LevelLaws
 pub mod Block
-pub mod BlockLaws
 pub mod Words
 pub mod Sound
 pub mod Reply

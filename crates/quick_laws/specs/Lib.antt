@@ -1,4 +1,2 @@
 pub mod Quick
-pub mod QuickLaws
 pub mod Rows
-pub mod RowsLaws

@@ -1,0 +1,13 @@
+-- The code computes the definition field by field; the upper 16 bits of a weight are below 2 ^ 16.
+use Rattle.std.proofs.Common.{arith}
+use Rattle.pass_laws.specs.Pass.{see_single}
+use Rattle.pass.proofs.see_single.Goals as goal
+
+pub returns : goal.returns
+unfolding see_single
+returns c =
+    (
+      rw (c.wrapping_add_u32-2.ensures.value, c.below-2.ensures.0, c.below.ensures.0, c.wrapping_add_u32.ensures.value),
+      omega (arith, c.below-2.ensures.1, c.below.ensures.1),
+      omega arith,
+    )

@@ -1,0 +1,3 @@
+pub mod QuickLaws
+pub mod RowsLaws
+pub mod Weighs

@@ -9,7 +9,7 @@ use Rattle.insert.proofs.insert.Goals as goal
 pub returns-then-x-level : goal.returns-then-x-level
 returns-then-x-level c =
     let o = c.requires in
-    (below o c.if-x-level.true, (sym (below_splits o c.if-x-level.true), omega arith))
+    record { words = below o c.if-x-level.true; count = sym (below_splits o c.if-x-level.true); most = omega arith }
 
 pub insert_single-requires : goal.insert_single-requires
 insert_single-requires c =
@@ -18,7 +18,7 @@ insert_single-requires c =
 pub returns-then-i-eq0 : goal.returns-then-i-eq0
 returns-then-i-eq0 c =
     let a = c.args in
-    rw c.if-i-eq0.true (c.insert_single.ensures, (sym (single_splits a.s.n a.x a.v (decode_level a.level.now)), omega arith))
+    rw c.if-i-eq0.true (record { words = c.insert_single.ensures; count = sym (single_splits a.s.n a.x a.v (decode_level a.level.now)); most = omega arith })
 
 pub find-j-requires : goal.find-j-requires
 find-j-requires c = searchable c.requires
@@ -30,4 +30,4 @@ insert_splitting-requires c =
 pub returns : goal.returns
 returns c =
     let done = c.insert_splitting.ensures in
-    (done.0, (done.1, omega (arith, done.1, splits_within c.requires)))
+    record { words = done.words; count = done.count; most = omega (arith, done.count, splits_within c.requires) }

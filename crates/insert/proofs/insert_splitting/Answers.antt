@@ -4,6 +4,7 @@ use mathlib.Core.Path.{refl, sym, ap, ◌∙◌}
 use native.Mathlib.Nat.{zero-add}
 use native.Mathlib.Omega.{arith}
 use borrow.Author.Rules.{rules}
+use borrow.Author.Tests.{not-true, not-false}
 use Rattle.model.specs.Words.{slot, encode_level}
 use Rattle.insert.specs.Ready.{inside, splits_few, no_splits, filled}
 use Rattle.insert.specs.Loop.{has_room}
@@ -28,16 +29,16 @@ overflow_add-splits c =
 pub returns-then-not-next : goal.returns-then-not-next
 returns-then-not-next c =
     let after = c.split-next.ensures in
-    let end = after.ends (c.if-not-next.true) in
-    (end.0 ∙ ap (encode_level _) c.loop-level.invariant.2, omega (arith, c.loop-level.invariant.3, after.count, end.1))
+    let end = after.ends (not-true _ c.if-not-next.true) in
+    record { words = end.0 ∙ ap (encode_level _) c.loop-level.invariant.2; count = omega (arith, c.loop-level.invariant.3, after.count, end.1) }
 
 pub loop-level-smaller : goal.loop-level-smaller
-loop-level-smaller c = (c.split-next.ensures.goes_on (c.if-not-next.false)).0
+loop-level-smaller c = (c.split-next.ensures.goes_on (not-false _ c.if-not-next.false)).0
 
 pub loop-level-preserved : goal.loop-level-preserved
 loop-level-preserved c =
     let after = c.split-next.ensures in
-    (search rules, (after.goes_on (c.if-not-next.false)).1, after.same ∙ c.loop-level.invariant.2, omega (arith, c.loop-level.invariant.3, after.count))
+    (search rules, (after.goes_on (not-false _ c.if-not-next.false)).1, after.same ∙ c.loop-level.invariant.2, omega (arith, c.loop-level.invariant.3, after.count))
 
 pub gain-requires : goal.gain-requires
 gain-requires c =
@@ -49,4 +50,4 @@ returns c =
     let a = c.args in
     let here = slot c.loop-level.level c.loop-level.slot in
     let room = has_room a.i c.loop-level.rest here (sym c.gets_full.ensures ∙ c.loop-level-test.false) in
-    (c.gain.ensures ∙ filled c.loop-level.invariant.1 room ∙ ap (encode_level _) c.loop-level.invariant.2, omega (arith, c.loop-level.invariant.3, no_splits c.loop-level.invariant.1 room))
+    record { words = c.gain.ensures ∙ filled c.loop-level.invariant.1 room ∙ ap (encode_level _) c.loop-level.invariant.2; count = omega (arith, c.loop-level.invariant.3, no_splits c.loop-level.invariant.1 room) }

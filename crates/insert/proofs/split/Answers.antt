@@ -18,7 +18,7 @@ overflow_sub-rest c =
 -- what is known after the split
 was-split : (d : After-split_at-up)
     → let a = d.args in
-    WasSplit a.n a.i a.x a.v a.j (d.long.result + a.v - 2 * d.long-2.result) a.level.now d.split_at-up.new.0 d.split_at-up.result
+    WasSplit a.n a.i a.x a.v a.j (d.long.result + a.v - 2 * d.long-2.result) a.level.now d.split_at-up.new.level d.split_at-up.result
 was-split d =
     let fills = full d.args.i d.args.v (slot d.args.level.now d.args.j) d.requires.1 in
     record { ready_was = d.requires.0; long = fills.0; full = omega (arith, fills.1); split = d.split_at-up.ensures }

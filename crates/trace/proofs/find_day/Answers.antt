@@ -5,18 +5,18 @@ use Rattle.laws.specs.Refusals.{number_of_pos}
 use Rattle.days.specs.declared.Pair.{Pair}
 use Rattle.trace.specs.TraceLaws.{InTrace, at_in, refused-first, part_found, part_none}
 use Rattle.trace.proofs.find_day.Goals as goal
-use Rattle.trace.proofs.find_day.Goals.{In-At-2}
+use Rattle.trace.proofs.find_day.Goals.{In-At}
 
-placed : (c : In-At-2) → InTrace c.args.trace.now c.args.day c.in-At.pair
+placed : (c : In-At) → InTrace c.args.trace.now c.args.day c.in-At.pair
 placed c = at_in _ _ c.judge_day.result c.in-At.pair c.in-At.is c.judge_day.ensures
 
 pub day_at-requires : goal.day_at-requires
-day_at-requires c = (placed (goal.at.day_at-requires c).In-At-2).within
+day_at-requires c = (placed (goal.at.day_at-requires c).In-At).within
 
 pub returns-in-At : goal.returns-in-At
 returns-in-At c =
     let a = c.args in
-    let p = placed (goal.at.returns-in-At c).In-At-2 in
+    let p = placed (goal.at.returns-in-At c).In-At in
     c.day_at.ensures ∙ ap (λ (z : Pair). take z.length (drop z.start a.trace.now)) p.is ∙ sym (part_found a.trace.now a.day p.number)
 
 pub returns-in-Refused : goal.returns-in-Refused

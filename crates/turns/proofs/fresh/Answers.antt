@@ -7,4 +7,4 @@ pub returns : goal.returns
 returns c =
     let d = c.wrapping_sub_u32 in
     let narrow : d.result < 2 ^ 32 = omega (arith, d.type_inv) in
-    rw (less-is d.result _ narrow d.ensures)
+    rw (less-is d.result _ narrow d.ensures.value)

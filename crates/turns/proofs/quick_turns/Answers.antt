@@ -27,8 +27,8 @@ quick_turn-t-requires c = left (goal.at.quick_turn-t-requires c).In-loop-rest
 pub slice_bounds-rest-count-in-loop-rest : goal.slice_bounds-rest-count-in-loop-rest
 slice_bounds-rest-count-in-loop-rest c = left (goal.at.slice_bounds-rest-count-in-loop-rest c).In-loop-rest
 
-pub ??slice_bounds_rest_start_2 : goal.??slice_bounds_rest_start_2
-??slice_bounds_rest_start_2 c = left (goal.at.??slice_bounds_rest_start_2 c).In-loop-rest
+pub slice_bounds-rest-start-in-loop-rest : goal.slice_bounds-rest-start-in-loop-rest
+slice_bounds-rest-start-in-loop-rest c = left (goal.at.slice_bounds-rest-start-in-loop-rest c).In-loop-rest
 
 pub overflow_add-at : goal.overflow_add-at
 overflow_add-at c = omega (arith, more (goal.at.overflow_add-at c).In-loop-rest, c.requires)

@@ -20,7 +20,7 @@ meets : (c : After-wide-length) → let a = c.args in
 meets c =
     let a = c.args in
     let sized : c.wide-length.result ≡ day_length a.trace.now c.loop-j.j = c.wide-length.ensures ∙ ap (λ (p : Pair). p.length) c.pair_at-pair.ensures in
-    laid_meets a.trace.now a.days c.loop-j.at c.loop-j.j c.loop-j-test.true (sym (starts c.before.before) ∙ c.if-wide-at.false)
+    laid_meets a.trace.now a.days c.loop-j.at c.loop-j.j c.loop-j-test.true (sym (starts (goal.at.After-wide-length c).After-wide) ∙ c.if-wide-at.false)
     ∙ ap (λ (n : ℕ). laid a.trace.now (c.loop-j.at + n) (c.loop-j.j + 1) (a.days - (c.loop-j.j + 1))) (sym sized)
 
 pub loop-j-init : goal.loop-j-init

@@ -20,4 +20,4 @@ loop-i-preserved c =
 
 pub returns : goal.returns
 returns c =
-    (refl, rw (drop_of_length-le c.args.text.now c.loop-i-test.false) at c.loop-i.invariant.2)
+    record { value = refl; out_after = rw (drop_of_length-le c.args.text.now c.loop-i-test.false) at c.loop-i.invariant.2 }

@@ -19,9 +19,9 @@ pub returns : goal.returns
 returns c =
     let d = c.digits-end in
     let a = c.args in
-    (omega (arith, numbered-length a.word.now a.x), rw (d.ensures.0, d.ensures.1, c.copy-at.ensures.0, c.copy-at.ensures.1) (numbered-stored a.word.now a.x a.out.now))
+    record { value = omega (arith, numbered-length a.word.now a.x); out_after = rw (d.ensures.value, d.ensures.out_after, c.copy-at.ensures.value, c.copy-at.ensures.out_after) (numbered-stored a.word.now a.x a.out.now) }
 
 pub shape_of-out : goal.shape_of-out
 shape_of-out c =
     let a = c.args in
-    ap length (returns c).1 ∙ length-sets a.out.now 0 (numbered a.word.now a.x)
+    ap length (returns c).out_after ∙ length-sets a.out.now 0 (numbered a.word.now a.x)

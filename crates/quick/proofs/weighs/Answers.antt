@@ -1,0 +1,5 @@
+-- The code makes each test of the definition once.
+use Rattle.quick.proofs.weighs.Goals as goal
+
+pub returns : goal.returns
+returns c = rw (c.both.ensures, c.implied.ensures)

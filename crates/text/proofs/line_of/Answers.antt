@@ -10,7 +10,7 @@ use Rattle.text.proofs.line_of.Goals as goal
 pub bounds-out-end : goal.bounds-out-end
 bounds-out-end c =
     let a = c.args in
-    omega (arith, c.digits-end.auto.1.1.0, c.copy-at.auto.1.0, digits_most 20 a.x)
+    omega (arith, c.digits-end.auto.out, c.copy-at.auto.out, digits_most 20 a.x)
 
 pub overflow_add-result : goal.overflow_add-result
 overflow_add-result c = omega (arith, digits_most 20 c.args.x)

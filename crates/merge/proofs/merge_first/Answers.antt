@@ -3,7 +3,7 @@ use borrow.Author.Tests.{ltb-true}
 use mathlib.Core.Bool.{true, ◌&&◌}
 use mathlib.Core.List.{List}
 use mathlib.Core.Path.{◌≡◌, sym, ap₂, subst, ◌∙◌}
-use Prim.Native.Nat.{ℕ}
+use Prim.Native.Nat.{ℕ, ◌<◌}
 use lib.Dec.{ltb}
 use Rattle.shape.specs.LimitsLaws.{both}
 use Rattle.model.specs.Trace.{day_count, sound_day, sound_trace}

@@ -5,26 +5,28 @@
 #     make trace DO='print days.trace'
 TOOL = cargo run --offline --release --quiet --manifest-path tools/Cargo.toml
 CC_EXAMPLE = gcc -Wall -Wextra -Werror -std=c11 -Iinclude
+ARCHIVE = crates/capi/out/libcapi.a
+BENCH = crates/bench/out/bench
 
 .PHONY: help check gate lib examples compare measure trace
 
 help: # the targets
 	@grep -E '^[a-z]+:' Makefile
 
-check: # prove and build the bench program
-	rt check bench
+check: # prove the bench program, write crates/bench/out/bench, and run it on no input
+	cd crates/bench && rt run </dev/null
 
 gate: # all that has to pass
 	bash .ci/run
 
-lib: # prove the library and write target/staticlib/libcapi.a
-	rt staticlib capi
+lib: # prove the library and write crates/capi/out/libcapi.a
+	cd crates/capi && rt lib
 
 examples: # build and run the examples in C
-	for name in site week two; do $(CC_EXAMPLE) -o target/$$name examples/$$name.c target/staticlib/libcapi.a && target/$$name || exit; done
+	mkdir -p target && for name in site week two; do $(CC_EXAMPLE) -o target/$$name examples/$$name.c $(ARCHIVE) && target/$$name || exit; done
 
 compare: # the usual comparisons with the second program, or the one that DO names
-	for do in $(if $(DO),"$(DO)","bench target/bin/bench" books replays merges); do $(TOOL) -p compare -- $$do || exit; done
+	for do in $(if $(DO),"$(DO)","bench $(BENCH)" books replays merges); do $(TOOL) -p compare -- $$do || exit; done
 
 measure: # the tables of docs/PERFORMANCE.md, or what DO names
 	$(TOOL) -p measure -- $(or $(DO),benchmark)

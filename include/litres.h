@@ -1,7 +1,7 @@
 /*
  * Litres by second for each fuel grade, over a sliding window, fed out of order.
  *
- * Link libcapi.a, which `rt staticlib capi` writes to target/staticlib. The header is C99, C11 and
+ * Link libcapi.a, which `rt lib` in crates/capi writes to crates/capi/out. The header is C99, C11 and
  * C++17. The library keeps nothing between calls: everything is in the book, which is the caller's.
  *
  * A tick is one second, a volume is in decilitres. A shape is four numbers:

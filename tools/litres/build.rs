@@ -1,4 +1,4 @@
-//! Links the archive that `rt staticlib capi` writes.
+//! Links the archive that `rt lib` makes of crates/capi.
 
 use std::env;
 use std::path::{Path, PathBuf};
@@ -14,7 +14,7 @@ fn main() -> ExitCode {
     println!("cargo::rerun-if-changed={}", archive.display());
     if !archive.is_file() {
         println!(
-            "cargo::error=there is no {}: run `rt staticlib capi` at the repository's root first, \
+            "cargo::error=there is no {}: run `rt lib` in crates/capi first, \
              or name the archive's folder in {FOLDER}",
             archive.display()
         );
@@ -30,7 +30,7 @@ fn main() -> ExitCode {
 fn archive_folder() -> PathBuf {
     let usual = || {
         let manifest = env::var_os("CARGO_MANIFEST_DIR").expect("cargo names the crate's folder");
-        Path::new(&manifest).join("../../target/staticlib")
+        Path::new(&manifest).join("../../crates/capi/out")
     };
     env::var_os(FOLDER).map_or_else(usual, PathBuf::from)
 }

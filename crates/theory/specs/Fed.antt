@@ -1,14 +1,13 @@
--- A level fed a list of events, the latest first, is sound and follows their counts, so its sums are near them. Assumes nothing.
-use Rattle.std.specs.Prelude.{◌≡◌, refl, List, [], ◌∷◌, ℕ, ◌+◌, ◌*◌, ◌^◌, ◌≤◌, ◌<◌}
+-- A level fed a list of events, the latest first, is sound and follows their counts. Assumes nothing.
+use Rattle.std.specs.Prelude.{◌≡◌, refl, List, [], ◌∷◌, ℕ, ◌^◌, ◌≤◌, ◌<◌}
 use Rattle.std.proofs.Common.{arith}
 use Rattle.model.specs.Level.{Level, insert, empty_level}
 use Rattle.model.specs.Block.{sum_from}
-use Rattle.model.specs.Claim.{Each, Near}
+use Rattle.model.specs.Claim.{Each}
 use Rattle.laws.specs.SumFrom.{more, share_all}
 use Rattle.laws.specs.Unit.{Tracks, tracks_same, insert_tracks, empty_tracks}
 use Rattle.laws.specs.SoundLevel.{SoundLevel}
 use Rattle.laws.specs.InsertSound.{tracks_sound}
-use Rattle.theory.specs.Near.{tracks_near, tracks_crowded}
 
 -- `vol` decilitres at offset `at`
 pub record Event : Type 0 where
@@ -39,14 +38,6 @@ module _ (k n i : ℕ) (two : 2 ≤ n) where
   module _ (es : List Event) (inside : Inside k es) where
     pub fed-sound : SoundLevel k n i (counted es 0) (fed k n i es)
     fed-sound = tracks_sound (fed_tracks es inside)
-
-    -- the error of a sum, from any offset on
-    pub fed_near : (t : ℕ) → (fed k n i es).first ≤ t → t ≤ 2 ^ k → Near ((k + 1) * 2 ^ i) (sum_from t (fed k n i es).buckets) (counted es t)
-    fed_near = tracks_near (fed_tracks es inside)
-
-    -- a level that has evicted what lay at a has counted much from a on
-    pub fed_crowded : (a : ℕ) → a < (fed k n i es).first → n * 2 ^ i ≤ counted es a + (k + 1) * 2 ^ i
-    fed_crowded = tracks_crowded (fed_tracks es inside) two
 
 -- level 0 is exact
 pub fed_exact : (k n : ℕ) → 2 ≤ n → (es : List Event) → Inside k es

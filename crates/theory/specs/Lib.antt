@@ -1,7 +1,6 @@
 pub mod Near
 pub mod Fed
 pub mod Relative
-pub mod Limited
 pub mod Highest
 pub mod Count
 pub mod Quiet

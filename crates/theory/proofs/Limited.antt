@@ -8,7 +8,8 @@ use Rattle.model.specs.Ground.{error_limit}
 use Rattle.model.specs.Claim.{Near}
 use Rattle.laws.specs.InsertSound.{sound_serves}
 use Rattle.laws.specs.BlockSound.{serving-index}
-use Rattle.theory.specs.Fed.{Event, fed, counted, Inside, fed-sound, fed_near, fed_exact}
+use Rattle.theory.specs.Fed.{Event, fed, counted, Inside, fed-sound, fed_exact}
+use Rattle.theory.proofs.FedLaws.{fed_near}
 
 module _ (k n : ℕ) (two : 2 ≤ n) (es : List Event) (inside : Inside k es) (a : ℕ) (low : a < 2 ^ k) where
   abbrev Limited : ℕ → Level → Type 0

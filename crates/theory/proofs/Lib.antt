@@ -1,0 +1,4 @@
+pub mod NearLaws
+pub mod FedLaws
+pub mod RelativeLaws
+pub mod Limited

@@ -1,17 +1,16 @@
--- The block of the entries that satisfy a test, as a function of the ledger: one more entry is a delivery, and a later clock is an advance.
--- Assumes nothing.
+-- The block of the entries that satisfy a test, as a function of the ledger, and which entries lie in an interval. Assumes nothing.
 use Rattle.std.specs.Prelude.{Bool, true, false, cond, ◌≡◌, List, [], ◌∷◌, eqb}
 use Rattle.std.proofs.Math.Path.{refl, ap₂}
-use Rattle.std.proofs.Common.{sym, ap, ◌∙◌, ⊎_elim, arith, eq-eqb, ne_eqb}
-use Prim.Native.Nat.{ℕ, zero, suc, ◌+◌, ◌%◌, ◌≤◌, ◌<◌}
+use Rattle.std.proofs.Common.{arith, eq-eqb, ne_eqb}
+use Prim.Native.Nat.{ℕ, zero, suc, ◌%◌, ◌≤◌, ◌<◌}
 use Rattle.shape.specs.declared.Shape.{Shape}
-use Rattle.model.specs.Block.{Half, Block, interval, offset_of, half_of, empty_half, empties, advance, deliver, deliver_half}
+use Rattle.model.specs.Block.{Half, Block, interval, half_of}
 use Rattle.model.specs.Ledger.{Entry, of_interval}
 use Rattle.model.specs.Claim.{Each}
 use Rattle.laws.specs.Cond.{and-false}
 use Rattle.ledger.specs.Time.{interval_mono}
-use Rattle.ledger.specs.Grown.{half_for, half_for-none, half_for-more, half_for_other}
-use Rattle.ledger.specs.Served.{served, served_near, served-parity, served-clock}
+use Rattle.ledger.specs.Grown.{half_for, half_for_other}
+use Rattle.ledger.specs.Served.{served}
 
 -- the half of a parity at a clock, for the entries that satisfy a test
 abbrev pub half_at : Shape → ℕ → List Entry → (Entry → Bool) → ℕ → Half
@@ -29,51 +28,29 @@ by_parity j P even odd = go (j % 2) (omega arith)
     go (suc zero) h = odd
     go (suc (suc r)) h = absurd (omega arith)
 
-half_of_block_for : (s : Shape) (clock : ℕ) (es : List Entry) (p : Entry → Bool) (j : ℕ)
+pub half_of_block_for : (s : Shape) (clock : ℕ) (es : List Entry) (p : Entry → Bool) (j : ℕ)
     → half_of j (block_for s clock es p) ≡ half_at s clock es p (j % 2)
 unfolding block_for
 half_of_block_for s clock es p j =
     by_parity j (λ r. cond (eqb r 0) (half_at s clock es p 0) (half_at s clock es p 1) ≡ half_at s clock es p r) refl refl
 
--- the half that serves the clock's interval, or the interval before
-pub half_of_served : (s : Shape) (clock : ℕ) (es : List Entry) (p : Entry → Bool) (j : ℕ) → j ≤ interval s clock → interval s clock ≤ j + 1
-    → half_of j (block_for s clock es p) ≡ half_for s (of_interval s p j) es
-half_of_served s clock es p j low high =
-    half_of_block_for s clock es p j ∙ ap (λ (i : ℕ). half_for s (of_interval s p i) es) (served_near (interval s clock) j low high)
-
 module _ (s : Shape) (p : Entry → Bool) (j : ℕ) where
   -- an entry of this interval that satisfies the test; one of another interval; one that does not satisfy it
-  of_interval_own : (e : Entry) → p e ≡ true → interval s e.stamp ≡ j → of_interval s p j e ≡ true
+  pub of_interval_own : (e : Entry) → p e ≡ true → interval s e.stamp ≡ j → of_interval s p j e ≡ true
   of_interval_own e g i = rw (g, eq-eqb (interval s e.stamp) j i)
 
-  of_interval_elsewhere : (e : Entry) → (interval s e.stamp ≡ j → ⊥) → of_interval s p j e ≡ false
+  pub of_interval_elsewhere : (e : Entry) → (interval s e.stamp ≡ j → ⊥) → of_interval s p j e ≡ false
   of_interval_elsewhere e i = and-false (p e) (ne_eqb (interval s e.stamp) j i)
 
   of_interval_other : (e : Entry) → p e ≡ false → of_interval s p j e ≡ false
   of_interval_other e g = rw g
 
   -- no entry lies in an interval that the clock has not entered
-  of_interval-ahead : (clock : ℕ) (es : List Entry) → Each (λ e. e.stamp ≤ clock) es → interval s clock < j
+  pub of_interval-ahead : (clock : ℕ) (es : List Entry) → Each (λ e. e.stamp ≤ clock) es → interval s clock < j
       → Each (λ e. of_interval s p j e ≡ false) es
   of_interval-ahead clock [] past h = tt
   of_interval-ahead clock (e ∷ es) past h =
       (of_interval_elsewhere e (λ i. omega (arith, interval_mono s past.0)), of_interval-ahead clock es past.1 h)
-
--- ---- clock
-
-module _ (s : Shape) (old new : ℕ) (es : List Entry) (p : Entry → Bool) (up : old ≤ new) (past : Each (λ e. e.stamp ≤ old) es) where
-  half_at-clock : (parity : ℕ) → parity < 2
-      → half_at s new es p parity ≡ cond (empties (interval s old) (interval s new) parity) (empty_half s) (half_at s old es p parity)
-  half_at-clock parity two =
-      ⊎_elim
-      (λ h. rw h.0 (half_for-none s (of_interval s p (served (interval s new) parity)) es
-      (of_interval-ahead s p (served (interval s new) parity) old es past h.1)))
-      (λ h. rw h.0 (ap (λ (j : ℕ). half_for s (of_interval s p j) es) h.1))
-      (served-clock (interval s old) (interval s new) parity (interval_mono s up) two)
-
-  pub block_for-clock : block_for s new es p ≡ advance s old new (block_for s old es p)
-  unfolding block_for advance
-  block_for-clock = ap₂ (λ (e o : Half). record { even = e; odd = o }) (half_at-clock 0 (omega arith)) (half_at-clock 1 (omega arith))
 
 -- ---- delivery
 
@@ -86,27 +63,3 @@ module _ (s : Shape) (clock : ℕ) (es : List Entry) (e : Entry) where
       kept : (parity : ℕ) → half_at s clock (e ∷ es) p parity ≡ half_at s clock es p parity
       kept parity = let j = served (interval s clock) parity in
           half_for_other s (of_interval s p j) e es (of_interval_other s p j e g)
-
-  -- otherwise it gets a delivery, if the half of the entry's parity serves its interval
-  module _ (p : Entry → Bool) (takes : p e ≡ true) (serves : served (interval s clock) (interval s e.stamp % 2) ≡ interval s e.stamp) where
-    own : (parity : ℕ) → interval s e.stamp % 2 ≡ parity
-        → half_at s clock (e ∷ es) p parity ≡ deliver_half s (offset_of s e.stamp) e.volume (half_at s clock es p parity)
-    own parity h = let j = served (interval s clock) parity in
-        half_for-more s (of_interval s p j) e es
-        (of_interval_own s p j e takes (sym serves ∙ ap (served (interval s clock)) h))
-
-    other : (parity : ℕ) → parity < 2 → (interval s e.stamp % 2 ≡ parity → ⊥)
-        → half_at s clock (e ∷ es) p parity ≡ half_at s clock es p parity
-    other parity two h = let j = served (interval s clock) parity in
-        half_for_other s (of_interval s p j) e es
-        (of_interval_elsewhere s p j e (λ i. h (ap (λ (z : ℕ). z % 2) i ∙ served-parity (interval s clock) parity two)))
-
-    pub block_for-more : block_for s clock (e ∷ es) p ≡ deliver s e.stamp e.volume (block_for s clock es p)
-    unfolding block_for deliver
-    block_for-more = go (interval s e.stamp % 2) refl (omega arith)
-      where
-        go : (r : ℕ) → interval s e.stamp % 2 ≡ r → r < 2
-            → block_for s clock (e ∷ es) p ≡ deliver s e.stamp e.volume (block_for s clock es p)
-        go zero h two = rw h (ap₂ (λ (x y : Half). record { even = x; odd = y }) (own 0 h) (other 1 (omega arith) (λ q. omega arith)))
-        go (suc zero) h two = rw h (ap₂ (λ (x y : Half). record { even = x; odd = y }) (other 0 (omega arith) (λ q. omega arith)) (own 1 h))
-        go (suc (suc r)) h two = absurd (omega arith)

@@ -1,5 +1,5 @@
--- Which answers are the ledger's own: those to windows with at most n different stamps from the opening on, in the interval where the window
--- opens, and so those to windows of at most n. Rests on level 0 holding such an opening.
+-- How many different stamps count for a window, from its opening on in the interval where it opens: they can be counted along the ticks, and a
+-- window of at most n has at most n. Assumes nothing.
 use Rattle.std.proofs.Math.Bool.{Bool}
 use Rattle.std.specs.Prelude.{true, false, cond, ◌&&◌, leb, eqb}
 use Rattle.std.proofs.Common.{true≢false, ◌∙◌, ⊎_elim, arith, le-leb, leb-true, eq-eqb, ne_eqb, eqb-true}
@@ -8,19 +8,17 @@ use mathlib.Core.List.{List, [], ◌∷◌}
 use Prim.Native.Nat.{ℕ, suc, ◌+◌, ◌-◌, ◌*◌, ◌^◌, ◌≤◌, ◌<◌}
 use Rattle.shape.specs.declared.Shape.{Shape}
 use Rattle.shape.specs.LimitsLaws.{both}
-use Rattle.model.specs.Block.{interval, offset_of, opening, window_sum}
-use Rattle.model.specs.Ledger.{Entry, Ledger, volume_of, of_interval, of_window}
+use Rattle.model.specs.Block.{interval, offset_of, opening}
+use Rattle.model.specs.Ledger.{Entry, Ledger, of_interval}
 use Rattle.model.specs.Stamps.{from_opening, stamps_of, occurs, different_stamps}
 use Rattle.model.specs.Claim.{Each}
 use Rattle.laws.specs.Cond.{eq_or_ne, and-true}
-use Rattle.theory.specs.Fed.{Event, fed, counted, fed_exact}
-use Rattle.theory.specs.Count.{count_from, count_most, count_shift, count_different}
-use Rattle.theory.specs.Quiet.{quiet_holds}
+use Rattle.theory.specs.Fed.{counted}
+use Rattle.theory.specs.Count.{count_from, count_most, count_different}
 use Rattle.ledger.specs.Time.{tick_split, offset_lt}
-use Rattle.ledger.specs.Grown.{events, events_inside, half_fed, volume_of_cong, counted-events}
-use Rattle.ledger.specs.Book.{block_for}
+use Rattle.ledger.specs.Grown.{events, volume_of_cong, counted-events}
 use Rattle.ledger.specs.State.{Good}
-use Rattle.ledger.specs.Window.{leb_same, from_offset, sum_relates}
+use Rattle.ledger.specs.Window.{leb_same, from_offset}
 
 -- ---- stamps and entries
 
@@ -89,14 +87,14 @@ module _ (l : Ledger) (good : Good l) (p : Entry → Bool) (window : ℕ) where
   interval-is e h = eqb-true (interval s e.stamp) j (both {a = p e} {b = eqb (interval s e.stamp) j} h).1
 
   -- the different stamps can be counted from the opening on
-  along : (c : ℕ) → ((e : Entry) → e.stamp ≤ clock → counts e ≡ true → e.stamp < start + c)
+  pub along : (c : ℕ) → ((e : Entry) → e.stamp ≤ clock → counts e ≡ true → e.stamp < start + c)
       → count_from (λ t. occurs t stamps) start c ≡ different_stamps l p window
   along c high =
       count_different start c stamps
       (stamps_each counts (λ e. e.stamp ≤ clock) (λ x. (start ≤ x) × (x < start + c)) (λ e past h. (stamp_low e h, high e past h)) es good.past)
 
   -- up to the end of the interval
-  interval_end : (e : Entry) → counts e ≡ true → e.stamp < start + (2 ^ s.k - a)
+  pub interval_end : (e : Entry) → counts e ≡ true → e.stamp < start + (2 ^ s.k - a)
   interval_end e h =
       let here : interval s e.stamp ≡ j = interval-is e (both {a = in_interval e} {b = leb start e.stamp} h).0 in
       omega (arith, ap (λ (z : ℕ). z * 2 ^ s.k) here, tick_split s start, tick_split s e.stamp, offset_lt s start, offset_lt s e.stamp)
@@ -124,28 +122,11 @@ module _ (l : Ledger) (good : Good l) (p : Entry → Bool) (window : ℕ) where
         go false is = refl
         go true is = leb_same t x (suc t) x (λ h. omega (arith, h, other is)) (λ h. omega arith)
 
-    no_volume : occurs stamp stamps ≡ false → counted (events s in_interval es) t ≡ counted (events s in_interval es) (suc t)
+    pub no_volume : occurs stamp stamps ≡ false → counted (events s in_interval es) t ≡ counted (events s in_interval es) (suc t)
     no_volume none =
         counted-events s in_interval t es
         ∙ volume_of_cong s (from_offset s p j t) (from_offset s p j (suc t)) es (stamps-none counts Same stamp entry_same es none)
         ∙ sym (counted-events s in_interval (suc t) es)
-
-  -- where at most n different stamps count, the book's sum is the ledger's
-  pub sum_exact : window ≤ 2 ^ s.k → different_stamps l p window ≤ s.n
-      → window_sum s clock window (block_for s clock es p) ≡ volume_of (of_window clock p window) es
-  unfolding half_fed
-  sum_exact w few =
-      let vs : List Event = events s in_interval es in
-      let inside = events_inside s in_interval es in
-      let two = good.limits.low_n in
-      let borne : ℕ → Bool = λ t. occurs (j * 2 ^ s.k + t) stamps in
-      let same : count_from borne a (2 ^ s.k - a) ≡ different_stamps l p window =
-      sym (count_shift (λ t. occurs t stamps) (j * 2 ^ s.k) a (2 ^ s.k - a))
-      ∙ ap (λ (z : ℕ). count_from (λ t. occurs t stamps) z (2 ^ s.k - a)) (tick_split s start)
-      ∙ along (2 ^ s.k - a) (λ e _. interval_end e) in
-      let held : (fed s.k s.n 0 vs).first ≤ a = quiet_holds s.k s.n two vs inside a borne no_volume (omega (arith, same, few)) in
-      sum_relates l good ◌≡◌ (λ x y more e. rw e) refl p window w
-      (λ _. rw (le-leb (fed s.k s.n 0 vs).first a held, ← counted-events s in_interval a es) (fed_exact s.k s.n two vs inside a held))
 
   -- a window of at most n has no more stamps than ticks, since none is past the clock
   pub short_few : window ≤ s.n → different_stamps l p window ≤ s.n

@@ -3,7 +3,6 @@ pub mod Grown
 pub mod Served
 pub mod Book
 pub mod State
-pub mod Agree
 pub mod Next
 pub mod Window
 pub mod Exact

@@ -18,8 +18,8 @@ use Rattle.laws.specs.Parts.{all_from_intro}
 use Rattle.laws.specs.Refusals.{view_of, past}
 use Rattle.ledger.specs.Time.{interval_mono, interval_near}
 use Rattle.ledger.specs.Grown.{half_fed}
-use Rattle.ledger.specs.Book.{half_of_served}
 use Rattle.ledger.specs.State.{Good, words_of, words_head, words_shape, words_clock, words_block, words_sound, words_all_sound}
+use Rattle.ledger.proofs.BookLaws.{half_of_served}
 
 module _ (l : Ledger) (good : Good l) where
   abbrev s : Shape

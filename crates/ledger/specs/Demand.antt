@@ -1,5 +1,4 @@
--- What the proof of the claim (demand 3) says of a call, of a single turn and of a run from the words of a ledger. Rests on the definitions
--- alone.
+-- What the proof of the claim says of a call, of a single turn and of a run from the words of a ledger. Rests on the definitions alone.
 use Rattle.std.specs.Prelude.{◌≡◌, List, ◌≤◌, length}
 use Rattle.model.specs.declared.Call.{Call}
 use Rattle.model.specs.Calls.{perform}

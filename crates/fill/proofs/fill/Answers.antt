@@ -41,7 +41,7 @@ insert_at-splits-requires c =
 pub overflow_add-splits : goal.overflow_add-splits
 overflow_add-splits c =
     let top = c.requires.deliverable.whole.proper in
-    omega (arith, c.loop-i.invariant.2, c.insert_at-splits.ensures.count.1, c.loop-i-test.true, top.last, top.limits.high-k, top.limits.high-m)
+    omega (arith, c.loop-i.invariant.2, c.insert_at-splits.ensures.most, c.loop-i-test.true, top.last, top.limits.high-k, top.limits.high-m)
 
 pub loop-i-preserved : goal.loop-i-preserved
 loop-i-preserved c =
@@ -52,12 +52,12 @@ loop-i-preserved c =
     let low : l.i ≤ a.s.last = omega (arith, c.loop-i-test.true) in (
       omega arith,
       c.insert_at-splits.auto.block ∙ l.invariant.1,
-      omega (arith, l.invariant.2, done.1.1, top.limits.high-k),
+      omega (arith, l.invariant.2, done.most, top.limits.high-k),
       λ ws e f.
           let so = l.invariant.3 ws e f in
           rw (add-one l.i) (
-            done.0 ∙ rw so.0 (level_filled a.s a.stamp a.parity a.x a.v ws f l.i low),
-            omega (arith, so.1, rw so.0 at done.1.0, level_splits_on a.s a.stamp a.parity a.x a.v ws f l.i low),
+            done.words ∙ rw so.0 (level_filled a.s a.stamp a.parity a.x a.v ws f l.i low),
+            omega (arith, so.1, rw so.0 at done.count, level_splits_on a.s a.stamp a.parity a.x a.v ws f l.i low),
           ),
     )
 
@@ -67,4 +67,4 @@ returns c =
     let a = c.args in
     let all : l.i ≡ suc a.s.last = omega arith in
     let so = rw all at (l.invariant.3 a.block.now (ap (λ (z : ℕ). set a.block.now a.parity (z + a.v)) c.long.ensures.0) c.requires) in
-    (so.0 ∙ delivering_all a.s a.stamp a.v a.block.now c.requires.deliverable.whole, omega (arith, so.1, splits_from_end a.s a.stamp a.v a.block.now))
+    record { words = so.0 ∙ delivering_all a.s a.stamp a.v a.block.now c.requires.deliverable.whole; count = omega (arith, so.1, splits_from_end a.s a.stamp a.v a.block.now) }

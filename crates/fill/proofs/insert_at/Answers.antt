@@ -22,7 +22,8 @@ pub returns : goal.returns
 returns c =
     let a = c.level_start-a.result in
     let e = a + c.level_len.result in
-    let done = c.insert.ensures in (
-      rw (done.0, Post-is a e c.args.block.now (omega arith), c.level_start-a.ensures, c.level_len.ensures, add-sub_cancel_left),
-      (rw (c.level_start-a.ensures, c.level_len.ensures, add-sub_cancel_left) at done.1.0, done.1.1),
-    )
+    let done = c.insert.ensures in record {
+      words = rw (done.words, Post-is a e c.args.block.now (omega arith), c.level_start-a.ensures, c.level_len.ensures, add-sub_cancel_left);
+      count = rw (c.level_start-a.ensures, c.level_len.ensures, add-sub_cancel_left) at done.count;
+      most = done.most;
+    }

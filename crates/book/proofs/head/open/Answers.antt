@@ -11,9 +11,8 @@ returns-then-book-lt-HEAD_LEN c = told_judgement _ _ _ (opened_short c.args.book
 
 pub with_shape-requires : goal.with_shape-requires
 with_shape-requires c =
-    let f = c.shape-1.given in
     let h = c.new.ensures in
-    let t = checked-within _ _ _ _ f.0.0 (ap reply_of (sym f.1) ∙ h) in
+    let t = checked-within _ _ _ _ c.in-Within.shape (ap reply_of (sym c.in-Within.is) ∙ h) in
     record { long = c.if-book-lt-HEAD_LEN.false; inside = t.0; same = t.1 }
 
 pub returns-in-Outside : goal.returns-in-Outside

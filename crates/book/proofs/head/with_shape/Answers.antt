@@ -1,4 +1,5 @@
 -- Each return follows from the first of the head's conditions, or the length, that fails.
+use borrow.Author.Tests.{eq-eqb, ne_eqb}
 use mathlib.Core.Bool.{cond, not}
 use mathlib.Core.Path.{◌≡◌, refl, ◌∙◌}
 use Prim.Native.Nat.{◌≤◌}
@@ -23,8 +24,8 @@ pub returns-then-not-blank : goal.returns-then-not-blank
 returns-then-not-blank c = told_judgement _ _ _ (told (goal.at.returns-then-not-blank c).After-book_len c.if-clock-gt-MAX_CLOCK.false ∙ rw c.if-not-blank.true)
 
 pub returns-then-not-whole : goal.returns-then-not-whole
-returns-then-not-whole c = told_judgement _ _ _ (told (goal.at.returns-then-not-whole c).After-book_len c.if-clock-gt-MAX_CLOCK.false ∙ rw (c.if-not-blank.false, c.if-not-whole.true))
+returns-then-not-whole c = told_judgement _ _ _ (told (goal.at.returns-then-not-whole c).After-book_len c.if-clock-gt-MAX_CLOCK.false ∙ rw (c.if-not-blank.false, ne_eqb _ _ c.if-not-whole.true))
 
 pub returns-else-not-whole : goal.returns-else-not-whole
 returns-else-not-whole c =
-    told_judgement _ _ _ (told (goal.at.returns-else-not-whole c).After-book_len c.if-clock-gt-MAX_CLOCK.false ∙ rw (c.if-not-blank.false, c.if-not-whole.false), c.requires.same, refl)
+    told_judgement _ _ _ (told (goal.at.returns-else-not-whole c).After-book_len c.if-clock-gt-MAX_CLOCK.false ∙ rw (c.if-not-blank.false, eq-eqb _ _ c.if-not-whole.false), c.requires.same, refl)

@@ -41,7 +41,7 @@ insert_at-splits-requires c =
 pub overflow_add-splits : goal.overflow_add-splits
 overflow_add-splits c =
     let top = c.requires.deliverable.whole.proper in
-    omega (arith, c.loop-i.invariant.2, c.insert_at-splits.ensures.most, c.loop-i-test.true, top.last, top.limits.high-k, top.limits.high-m)
+    omega (arith, c.loop-i.invariant.2, c.insert_at-splits.ensures.most, c.loop-i-test.true, top.last, top.limits.high_k, top.limits.high_m)
 
 pub loop-i-preserved : goal.loop-i-preserved
 loop-i-preserved c =
@@ -52,7 +52,7 @@ loop-i-preserved c =
     let low : l.i ≤ a.s.last = omega (arith, c.loop-i-test.true) in (
       omega arith,
       c.insert_at-splits.auto.block ∙ l.invariant.1,
-      omega (arith, l.invariant.2, done.most, top.limits.high-k),
+      omega (arith, l.invariant.2, done.most, top.limits.high_k),
       λ ws e f.
           let so = l.invariant.3 ws e f in
           rw (add-one l.i) (

@@ -1,6 +1,7 @@
 -- The tests are those of the refusals that are left, in their order.
+use borrow.Author.Tests.{le-ltb, lt-ltb}
 use mathlib.Core.Bool.{cond, not}
-use mathlib.Core.Path.{◌≡◌, ◌∙◌}
+use mathlib.Core.Path.{◌≡◌, ◌∙◌, ap}
 use lib.Dec.{ltb}
 use Rattle.model.specs.declared.Call.TheVariants.{Clock}
 use Rattle.model.specs.Sound.{max_clock}
@@ -12,17 +13,17 @@ use Rattle.judge.proofs.judge_clock_in.Goals.{After-all_sound}
 
 -- the refusals that are left, by the test of the blocks
 told : (c : After-all_sound) → let a = c.args in
-    first_refusal a.book.now (Clock a.to) ≡ cond (ltb max_clock a.to) 6 (cond (ltb a.to a.clock) 10 (cond (not c.All-sound.result) 11 0))
+    first_refusal a.book.now (Clock a.to) ≡ cond (ltb max_clock a.to) 6 (cond (ltb a.to a.clock) 10 (cond (not c.all_sound.result) 11 0))
 told c =
-    clock_judges c.args.book.now c.args.s c.args.clock c.requires c.args.to ∙ rw c.All-sound.ensures
+    clock_judges c.args.book.now c.args.s c.args.clock c.requires c.args.to ∙ rw c.all_sound.ensures
 
 pub returns-then-past : goal.returns-then-past
 returns-then-past c =
-    told_judgement _ _ _ (clock_judges c.args.book.now c.args.s c.args.clock c.requires c.args.to ∙ first_here _ _ c.if-past.true)
+    told_judgement _ _ _ (clock_judges c.args.book.now c.args.s c.args.clock c.requires c.args.to ∙ first_here _ _ (lt-ltb max_clock c.args.to c.if-past.true))
 
 pub returns-then-back : goal.returns-then-back
 returns-then-back c =
-    told_judgement _ _ _ (clock_judges c.args.book.now c.args.s c.args.clock c.requires c.args.to ∙ first_later _ _ c.if-past.false ∙ first_here _ _ c.if-back.true)
+    told_judgement _ _ _ (clock_judges c.args.book.now c.args.s c.args.clock c.requires c.args.to ∙ first_later _ _ (le-ltb max_clock c.args.to c.if-past.false) ∙ first_here _ _ (lt-ltb c.args.to c.args.clock c.if-back.true))
 
 pub all_sound-requires : goal.all_sound-requires
 all_sound-requires c =
@@ -30,8 +31,8 @@ all_sound-requires c =
     (open_size a.book.now a.s a.clock c.requires, open_proper a.book.now a.s a.clock c.requires)
 
 pub returns-then-not-all_sound : goal.returns-then-not-all_sound
-returns-then-not-all_sound c = told_judgement _ _ _ (told (goal.at.returns-then-not-all_sound c).After-all_sound ∙ first_later _ _ c.if-past.false ∙ first_later _ _ c.if-back.false ∙ first_here _ _ c.if-not-all_sound.true)
+returns-then-not-all_sound c = told_judgement _ _ _ (told (goal.at.returns-then-not-all_sound c).After-all_sound ∙ first_later _ _ (le-ltb max_clock c.args.to c.if-past.false) ∙ first_later _ _ (le-ltb c.args.to c.args.clock c.if-back.false) ∙ first_here _ _ (ap not c.if-not-all_sound.true))
 
 pub returns : goal.returns
 returns c =
-    told_judgement _ _ _ (told (goal.at.returns c).After-all_sound ∙ first_later _ _ c.if-past.false ∙ first_later _ _ c.if-back.false ∙ first_later _ _ c.if-not-all_sound.false, c.requires.same, c.requires.now)
+    told_judgement _ _ _ (told (goal.at.returns c).After-all_sound ∙ first_later _ _ (le-ltb max_clock c.args.to c.if-past.false) ∙ first_later _ _ (le-ltb c.args.to c.args.clock c.if-back.false) ∙ first_later _ _ (ap not c.if-not-all_sound.false), c.requires.same, c.requires.now)

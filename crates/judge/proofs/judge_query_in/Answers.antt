@@ -1,8 +1,8 @@
 -- The tests are those of the refusals that are left, in their order.
 use native.Mathlib.Omega.{arith}
-use borrow.Author.Tests.{ltb-true, not-false}
+use borrow.Author.Tests.{le-ltb, lt-ltb}
 use mathlib.Core.Bool.{cond, not}
-use mathlib.Core.Path.{◌≡◌, ◌∙◌}
+use mathlib.Core.Path.{◌≡◌, ◌∙◌, ap}
 use lib.Dec.{ltb}
 use Rattle.model.specs.declared.Call.TheVariants.{Query}
 use Rattle.model.specs.Words.{block_part}
@@ -31,21 +31,21 @@ power-widest-requires c =
     omega (arith, (open_proper c.args.book.now c.args.s c.args.clock c.requires).limits.high_k)
 
 pub returns-then-not-known : goal.returns-then-not-known
-returns-then-not-known c = told_judgement _ _ _ (told (goal.at.returns-then-not-known c).After-power-widest ∙ first_here _ _ c.if-not-known.true)
+returns-then-not-known c = told_judgement _ _ _ (told (goal.at.returns-then-not-known c).After-power-widest ∙ first_here _ _ (ap not (le-ltb c.args.grade c.args.s.g c.if-not-known.true)))
 
 pub returns-then-wide : goal.returns-then-wide
-returns-then-wide c = told_judgement _ _ _ (told (goal.at.returns-then-wide c).After-power-widest ∙ first_later _ _ c.if-not-known.false ∙ first_here _ _ c.if-wide.true)
+returns-then-wide c = told_judgement _ _ _ (told (goal.at.returns-then-wide c).After-power-widest ∙ first_later _ _ (ap not (lt-ltb c.args.grade c.args.s.g c.if-not-known.false)) ∙ first_here _ _ (lt-ltb c.power-widest.result c.args.window c.if-wide.true))
 
 pub block_sound-requires : goal.block_sound-requires
 block_sound-requires c =
     open_inside c.args.book.now c.args.s c.args.clock c.requires c.args.grade
-    (ltb-true c.args.grade c.args.s.g (not-false _ c.if-not-known.false))
+    c.if-not-known.false
 
 -- the question is accepted only if no test holds
 pub returns : goal.returns
 returns c =
-    told_judgement _ _ _ (asked (goal.at.returns c).After-block_sound ∙ first_later _ _ c.if-not-known.false ∙ first_later _ _ c.if-wide.false ∙ first_later _ _ c.if-not-block_sound.false, c.requires.same, c.requires.now)
+    told_judgement _ _ _ (asked (goal.at.returns c).After-block_sound ∙ first_later _ _ (ap not (lt-ltb c.args.grade c.args.s.g c.if-not-known.false)) ∙ first_later _ _ (le-ltb c.power-widest.result c.args.window c.if-wide.false) ∙ first_later _ _ (ap not c.if-not-block_sound.false), c.requires.same, c.requires.now)
 
 -- 11 is the last refusal
 pub returns-then-not-block_sound : goal.returns-then-not-block_sound
-returns-then-not-block_sound c = told_judgement _ _ _ (asked (goal.at.returns-then-not-block_sound c).After-block_sound ∙ first_later _ _ c.if-not-known.false ∙ first_later _ _ c.if-wide.false ∙ first_here _ _ c.if-not-block_sound.true)
+returns-then-not-block_sound c = told_judgement _ _ _ (asked (goal.at.returns-then-not-block_sound c).After-block_sound ∙ first_later _ _ (ap not (lt-ltb c.args.grade c.args.s.g c.if-not-known.false)) ∙ first_later _ _ (le-ltb c.power-widest.result c.args.window c.if-wide.false) ∙ first_here _ _ (ap not c.if-not-block_sound.true))

@@ -1,8 +1,8 @@
 -- The tests are those of the refusals that are left, in their order; after 8 the sum with 2^k cannot wrap.
 use native.Mathlib.Omega.{arith}
-use borrow.Author.Tests.{le-leb, lt-ltb, le-ltb, ltb-true, not-false}
+use borrow.Author.Tests.{le-leb, lt-ltb, le-ltb}
 use mathlib.Core.Bool.{cond, not}
-use mathlib.Core.Path.{◌≡◌, sym, ◌∙◌}
+use mathlib.Core.Path.{◌≡◌, sym, ◌∙◌, ap}
 use Prim.Native.Nat.{◌+◌, ◌^◌, ◌≤◌}
 use lib.Dec.{ltb}
 use lib.Pow.{pow_mono}
@@ -22,15 +22,15 @@ told c =
     delivery_judges c.args.book.now c.args.s c.args.clock c.requires c.args.grade c.args.stamp c.args.volume ∙ rw c.is_outside-outside.ensures
 
 pub returns-then-not-known : goal.returns-then-not-known
-returns-then-not-known c = told_judgement _ _ _ (told (goal.at.returns-then-not-known c).After-is_outside-outside ∙ first_here _ _ c.if-not-known.true)
+returns-then-not-known c = told_judgement _ _ _ (told (goal.at.returns-then-not-known c).After-is_outside-outside ∙ first_here _ _ (ap not (le-ltb c.args.grade c.args.s.g c.if-not-known.true)))
 
 pub returns-then-outside : goal.returns-then-outside
-returns-then-outside c = told_judgement _ _ _ (told (goal.at.returns-then-outside c).After-is_outside-outside ∙ first_later _ _ c.if-not-known.false ∙ first_here _ _ c.if-outside.true)
+returns-then-outside c = told_judgement _ _ _ (told (goal.at.returns-then-outside c).After-is_outside-outside ∙ first_later _ _ (ap not (lt-ltb c.args.grade c.args.s.g c.if-not-known.false)) ∙ first_here _ _ c.if-outside.true)
 
 pub returns-then-clock-stamp : goal.returns-then-clock-stamp
 returns-then-clock-stamp c =
     let a = c.args in
-    told_judgement _ _ _ (told (goal.at.returns-then-clock-stamp c).After-is_outside-outside ∙ first_later _ _ c.if-not-known.false ∙ first_later _ _ c.if-outside.false ∙ first_here _ _ (lt-ltb a.clock a.stamp c.if-clock-stamp.true))
+    told_judgement _ _ _ (told (goal.at.returns-then-clock-stamp c).After-is_outside-outside ∙ first_later _ _ (ap not (lt-ltb c.args.grade c.args.s.g c.if-not-known.false)) ∙ first_later _ _ c.if-outside.false ∙ first_here _ _ (lt-ltb a.clock a.stamp c.if-clock-stamp.true))
 
 pub power-requires : goal.power-requires
 power-requires c =
@@ -44,13 +44,13 @@ pub returns-then-stamp-power : goal.returns-then-stamp-power
 returns-then-stamp-power c =
     let a = c.args in
     let gone : a.stamp + 2 ^ a.s.k ≤ a.clock = omega (arith, c.power.ensures, c.if-stamp-power.true) in
-    told_judgement _ _ _ (told (goal.at.returns-then-stamp-power c).After-is_outside-outside ∙ first_later _ _ c.if-not-known.false ∙ first_later _ _ c.if-outside.false ∙ first_later _ _ (le-ltb a.clock a.stamp c.if-clock-stamp.false) ∙ first_here _ _ (le-leb (a.stamp + 2 ^ a.s.k) a.clock gone))
+    told_judgement _ _ _ (told (goal.at.returns-then-stamp-power c).After-is_outside-outside ∙ first_later _ _ (ap not (lt-ltb c.args.grade c.args.s.g c.if-not-known.false)) ∙ first_later _ _ c.if-outside.false ∙ first_later _ _ (le-ltb a.clock a.stamp c.if-clock-stamp.false) ∙ first_here _ _ (le-leb (a.stamp + 2 ^ a.s.k) a.clock gone))
 
 pub judge_room-requires : goal.judge_room-requires
 judge_room-requires c =
     record {
       book = c.requires;
-      inside = ltb-true c.args.grade c.args.s.g (not-false _ c.if-not-known.false);
+      inside = c.if-not-known.false;
       fair = sym c.is_outside-outside.ensures ∙ c.if-outside.false;
       come = c.if-clock-stamp.false;
       early = omega (arith, c.power.ensures, c.if-stamp-power.false);

@@ -1,6 +1,6 @@
 -- The tests are those of the two refusals that are left, in their order.
 use mathlib.Core.Bool.{cond, not}
-use mathlib.Core.Path.{◌≡◌, ◌∙◌}
+use mathlib.Core.Path.{◌≡◌, ◌∙◌, ap}
 use Rattle.model.specs.declared.Call.TheVariants.{Delivery}
 use Rattle.book.specs.Head.{told_judgement}
 use Rattle.book.specs.Judgement.{first_refusal}
@@ -20,12 +20,12 @@ pub block_full-full-requires : goal.block_full-full-requires
 block_full-full-requires c = due_inside c.requires
 
 pub returns-then-not-sound : goal.returns-then-not-sound
-returns-then-not-sound c = told_judgement _ _ _ (room (goal.at.returns-then-not-sound c).After-block_full-full ∙ first_here _ _ c.if-not-sound.true)
+returns-then-not-sound c = told_judgement _ _ _ (room (goal.at.returns-then-not-sound c).After-block_full-full ∙ first_here _ _ (ap not c.if-not-sound.true))
 
 pub returns-then-full : goal.returns-then-full
-returns-then-full c = told_judgement _ _ _ (room (goal.at.returns-then-full c).After-block_full-full ∙ first_later _ _ c.if-not-sound.false ∙ first_here _ _ c.if-full.true)
+returns-then-full c = told_judgement _ _ _ (room (goal.at.returns-then-full c).After-block_full-full ∙ first_later _ _ (ap not c.if-not-sound.false) ∙ first_here _ _ c.if-full.true)
 
 pub returns : goal.returns
 returns c =
     let book = c.requires.book in
-    told_judgement _ _ _ (room (goal.at.returns c).After-block_full-full ∙ first_later _ _ c.if-not-sound.false ∙ first_later _ _ c.if-full.false, book.same, book.now)
+    told_judgement _ _ _ (room (goal.at.returns c).After-block_full-full ∙ first_later _ _ (ap not c.if-not-sound.false) ∙ first_later _ _ c.if-full.false, book.same, book.now)

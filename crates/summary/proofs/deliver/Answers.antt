@@ -29,5 +29,5 @@ returns c =
     let a = c.block_start-a.result in
     let e = a + c.block_len.result in
     let done = c.deliver_block.ensures in
-    rw (done.1, done.0, Post-is a e c.args.book.now (omega arith), c.block_start-a.ensures, c.block_len.ensures, add-sub_cancel_left)
+    rw (done.count, done.words, Post-is a e c.args.book.now (omega arith), c.block_start-a.ensures, c.block_len.ensures, add-sub_cancel_left)
     (delivered_outcome c.args.book.now c.args.shape c.args.grade c.args.stamp c.args.volume c.requires.0 c.requires.1)

@@ -1,0 +1,13 @@
+use mathlib.Core.Path.{◌≡◌}
+use Prim.Native.Nat.{◌-◌, ◌*◌, ◌≤◌}
+use lib.ListN.{length}
+use Rattle.model.specs.Replay.{answer_words}
+use Rattle.replay.specs.ReplayLaws.{Played}
+use Rattle.replay.proofs.play_day.Given as goal
+
+abbrev pub invariant-loop-i : goal.invariant-loop-i
+invariant-loop-i l =
+    (l.i ≤ l.count) × (answer_words * l.count ≤ length l.answers) × (length l.book ≡ length l.initial.book) × (length l.answers ≡ length l.initial.answers) × Played l.initial.book l.day l.initial.answers l.i l.book l.answers
+
+abbrev pub decreases-loop-i : goal.decreases-loop-i
+decreases-loop-i l = l.count - l.i

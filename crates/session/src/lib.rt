@@ -38,7 +38,7 @@ fn spell(said: Said, out: &mut [u8]) -> usize
 fn append(out: &mut [u8], used: usize, said: Said) -> usize
     requires { used + 32 ≤ length out.old }
     ensures out_after { take result out.new ≡ take used out.old ++ said_text said }
-    ensures upper_bound { result ≤ used + 32 }
+    ensures bounds { result ≤ used + 32 }
 {
     let added = spell(said, &mut out[used..]);
     used + added
@@ -47,8 +47,8 @@ fn append(out: &mut [u8], used: usize, said: Said) -> usize
 // The line ends: its call is performed, and the answer waits in the output.
 fn end_line(book: &mut [u32], out: &mut [u8], s: Session) -> Session
     requires { (s.lent ≤ length book.old) × (s.used + 32 ≤ length out.old) }
-    ensures out_after { bench_of result book.new out.new ≡ end_line (bench_of s book.old out.old) }
-    ensures lent_in_bounds { (result.lent ≤ length book.old) × (result.used ≤ s.used + 32) }
+    ensures bench { bench_of result book.new out.new ≡ end_line (bench_of s book.old out.old) }
+    ensures bounds { (result.lent ≤ length book.old) × (result.used ≤ s.used + 32) }
 {
     let line = s.line;
     let parsed = line.finish();
@@ -66,8 +66,8 @@ fn end_line(book: &mut [u32], out: &mut [u8], s: Session) -> Session
 // One byte of the input.
 fn feed_byte(book: &mut [u32], out: &mut [u8], s: Session, byte: u8) -> Session
     requires { (s.lent ≤ length book.old) × (s.used + 32 ≤ length out.old) }
-    ensures out_after { bench_of result book.new out.new ≡ feed_byte (bench_of s book.old out.old) byte }
-    ensures lent_in_bounds { (result.lent ≤ length book.old) × (result.used ≤ s.used + 32) }
+    ensures bench { bench_of result book.new out.new ≡ feed_byte (bench_of s book.old out.old) byte }
+    ensures bounds { (result.lent ≤ length book.old) × (result.used ≤ s.used + 32) }
 {
     if byte == b'\n' {
         return end_line(book, out, s);
@@ -84,8 +84,8 @@ fn feed_byte(book: &mut [u32], out: &mut [u8], s: Session, byte: u8) -> Session
 // The next bytes of the input. The output has room for an answer to each.
 pub fn feed(book: &mut [u32], out: &mut [u8], s: Session, bytes: &[u8]) -> Session
     requires { (s.lent ≤ length book.old) × (s.used + 32 * length bytes.now ≤ length out.old) }
-    ensures out_after { bench_of result book.new out.new ≡ foldl feed_byte (bench_of s book.old out.old) bytes.now }
-    ensures lent_in_bounds { (result.lent ≤ length book.old) × (result.used ≤ s.used + 32 * length bytes.now) }
+    ensures bench { bench_of result book.new out.new ≡ foldl feed_byte (bench_of s book.old out.old) bytes.now }
+    ensures bounds { (result.lent ≤ length book.old) × (result.used ≤ s.used + 32 * length bytes.now) }
 {
     let mut session = s;
     let mut i: usize = 0;
@@ -99,8 +99,8 @@ pub fn feed(book: &mut [u32], out: &mut [u8], s: Session, bytes: &[u8]) -> Sessi
 // The end of the input. The last line may lack its newline.
 pub fn end_input(book: &mut [u32], out: &mut [u8], s: Session) -> Session
     requires { (s.lent ≤ length book.old) × (s.used + 32 ≤ length out.old) }
-    ensures out_after { bench_of result book.new out.new ≡ end_input (bench_of s book.old out.old) }
-    ensures used_bound { result.used ≤ s.used + 32 }
+    ensures bench { bench_of result book.new out.new ≡ end_input (bench_of s book.old out.old) }
+    ensures bounds { result.used ≤ s.used + 32 }
 {
     if s.begun {
         return end_line(book, out, s);
@@ -111,8 +111,8 @@ pub fn end_input(book: &mut [u32], out: &mut [u8], s: Session) -> Session
 // The state before the first byte. The buffer is zero, as at the start.
 pub fn begin(book: &[u32]) -> Session
     requires { book.now ≡ zero_buffer }
-    ensures by_index { (out : List ℕ) → bench_of result book.now out ≡ initial }
-    ensures lent_in_bounds { (result.lent ≤ length book.now) × (result.used ≡ 0) }
+    ensures bench { (out : List ℕ) → bench_of result book.now out ≡ initial }
+    ensures bounds { (result.lent ≤ length book.now) × (result.used ≡ 0) }
 {
     Session {
         line: Line::start(),
@@ -124,8 +124,8 @@ pub fn begin(book: &[u32]) -> Session
 
 // The state after the waiting bytes were written out.
 pub fn written_out(s: Session) -> Session
-    ensures by_index { (words out : List ℕ) → bench_of result words out ≡ written_out (bench_of s words out) }
-    ensures lent_value { (result.lent ≡ s.lent) × (result.used ≡ 0) }
+    ensures bench { (words out : List ℕ) → bench_of result words out ≡ written_out (bench_of s words out) }
+    ensures bounds { (result.lent ≡ s.lent) × (result.used ≡ 0) }
 {
     let line = s.line;
     Session {

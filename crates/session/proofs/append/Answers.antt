@@ -17,7 +17,7 @@ returns c =
     let text = said_text c.args.said in
     let out = c.args.out.now in
     let used = c.args.used in
-    let room : List ℕ = take (length out - used) (drop used out) in (
-      text_behind text out room c.spell-added.new.1.0 _ used c.spell-added.result (omega arith) (room_behind out used c.requires) c.spell-added.ensures.value c.spell-added.ensures.out_after,
-      omega (arith, written_short text _ c.spell-added.ensures.value (said_short c.args.said)),
-    )
+    let room : List ℕ = take (length out - used) (drop used out) in record {
+      out_after = text_behind text out room c.spell-added.new.out _ used c.spell-added.result (omega arith) (room_behind out used c.requires) c.spell-added.ensures.value c.spell-added.ensures.out_after;
+      bounds = omega (arith, written_short text _ c.spell-added.ensures.value (said_short c.args.said));
+    }

@@ -5,4 +5,4 @@ use Rattle.session.proofs.begin.Goals as goal
 
 pub returns : goal.returns
 returns c =
-    (λ out. start-initial c.start.result c.args.book.now out c.start.ensures c.requires, search rules)
+    record { bench = λ out. start-initial c.start.result c.args.book.now out c.start.ensures c.requires; bounds = search rules }

@@ -7,8 +7,8 @@ use Rattle.session.proofs.end_input.Goals as goal
 
 pub returns-then-s : goal.returns-then-s
 returns-then-s c =
-    (c.end_line.ensures.out_after ∙ sym (at_end (bench_of c.args.s c.args.book.now c.args.out.now) c.if-s.true), c.end_line.ensures.lent_in_bounds.1)
+    record { bench = c.end_line.ensures.bench ∙ sym (at_end (bench_of c.args.s c.args.book.now c.args.out.now) c.if-s.true); bounds = c.end_line.ensures.bounds.1 }
 
 pub returns : goal.returns
 returns c =
-    (sym (at_end_none (bench_of c.args.s c.args.book.now c.args.out.now) c.if-s.false), omega arith)
+    record { bench = sym (at_end_none (bench_of c.args.s c.args.book.now c.args.out.now) c.if-s.false); bounds = omega arith }

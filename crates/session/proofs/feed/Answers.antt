@@ -19,11 +19,11 @@ loop-i-preserved c =
       search rules,
       omega arith,
       rw add-one
-          (ap (λ (b : Bench). foldl feed_byte b (drop (suc c.loop-i.i) bytes)) c.feed_byte-session.ensures.out_after
+          (ap (λ (b : Bench). foldl feed_byte b (drop (suc c.loop-i.i) bytes)) c.feed_byte-session.ensures.bench
           ∙ rw (drop-cons bytes c.loop-i.i 0 h) at c.loop-i.invariant.5),
     )
 
 pub returns : goal.returns
 returns c =
     let bytes = c.args.bytes.now in
-    (rw (drop_of_length-le bytes c.loop-i-test.false) at c.loop-i.invariant.5, search rules)
+    record { bench = rw (drop_of_length-le bytes c.loop-i-test.false) at c.loop-i.invariant.5; bounds = search rules }

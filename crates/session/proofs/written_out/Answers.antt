@@ -6,4 +6,4 @@ use Rattle.session.proofs.written_out.Goals as goal
 
 pub returns : goal.returns
 unfolding written_out
-returns c = (λ words out. refl, search rules)
+returns c = record { bench = λ words out. refl; bounds = search rules }

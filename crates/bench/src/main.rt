@@ -4,13 +4,14 @@
 ghost use Rattle.std.specs.Prelude.{◌≡◌, ◌*◌, ◌≤◌, ◌<◌, length};
 ghost use Rattle.session.specs.Protocol.{zero_buffer};
 
-use libc::{STDIN_FILENO, STDOUT_FILENO};
+use std::io;
+use std::io::{Read, Write};
 
 // Writes out the bytes that wait.
-fn write_out(out: &[u8], used: usize)
+fn write_out(rt: &HostRuntime, out: &[u8], used: usize) -> io::Result<()>
     requires { used ≤ length out.now }
 {
-    io::write_all(STDOUT_FILENO, &out[..used]);
+    rt.stdout().write_all(&out[..used])
 }
 
 // How many turns are left after one that read n bytes: none once the input has ended.
@@ -23,26 +24,30 @@ fn turns_after(turns: u64, n: usize) -> u64
 
 // The waiting bytes are written out before each read, so each line is answered when it has been read. A byte of input adds at most 32 bytes
 // to them. A proved loop has to end, so this one counts its turns down from a number that no input uses up.
-fn serve(book: &mut [u32], out: &mut [u8], chunk: &mut [u8])
+fn serve(
+    rt: &HostRuntime,
+    book: &mut [u32],
+    out: &mut [u8],
+    chunk: &mut [u8],
+) -> io::Result<()>
     requires { (book.old ≡ zero_buffer) × (32 ≤ length out.old) × (32 * length chunk.old ≤ length out.old) }
 {
     let mut session = session::begin(&book[..]);
     let mut turns = u64::MAX;
     while 0 < turns {
-        let got = libc::read(STDIN_FILENO, chunk);
-        let n = io::count(got, &chunk[..]);
+        let n = rt.stdin().read(chunk)?;
         let fed = session::feed(book, out, session, &chunk[..n]);
-        write_out(&out[..], fed.used);
+        write_out(rt, &out[..], fed.used)?;
         session = session::written_out(fed);
         turns = turns_after(turns, n);
     }
     let last = session::end_input(book, out, session);
-    write_out(&out[..], last.used);
+    write_out(rt, &out[..], last.used)
 }
 
-fn main() {
+fn main(rt: HostRuntime) -> io::Result<()> {
     let mut book = [0u32; 14836];
-    let mut out = io::large_buffer();
+    let mut out = [0u8; 65536];
     let mut chunk = [0u8; 2048];
-    serve(&mut book, &mut out, &mut chunk);
+    serve(&rt, &mut book, &mut out, &mut chunk)
 }

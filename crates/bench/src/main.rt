@@ -24,12 +24,7 @@ fn turns_after(turns: u64, n: usize) -> u64
 
 // The waiting bytes are written out before each read, so each line is answered when it has been read. A byte of input adds at most 32 bytes
 // to them. A proved loop has to end, so this one counts its turns down from a number that no input uses up.
-fn serve(
-    rt: &HostRuntime,
-    book: &mut [u32],
-    out: &mut [u8],
-    chunk: &mut [u8],
-) -> io::Result<()>
+fn serve(rt: &HostRuntime, book: &mut [u32], out: &mut [u8], chunk: &mut [u8]) -> io::Result<()>
     requires { (book.old ≡ zero_buffer) × (32 ≤ length out.old) × (32 * length chunk.old ≤ length out.old) }
 {
     let mut session = session::begin(&book[..]);

@@ -2,7 +2,7 @@
 -- nothing.
 use Rattle.std.specs.Prelude.{true, ◌&&◌, List, ◌++◌, ◌≡◌, ℕ, zero, suc, ◌+◌, ◌-◌, ◌*◌, ◌/◌, ◌%◌, ◌^◌, ◌≤◌, ◌<◌, leb, eqb, length, get_or, take, drop}
 use Rattle.std.proofs.Math.Path.{refl}
-use Rattle.std.proofs.Common.{sym, ap, ◌∙◌, add-zero, mul-le-mul_right, mod-eq_of_lt, arith, length-drop, pow_mono, get_or-drop, drop-drop, leb-true, le-leb, ne_eqb}
+use Rattle.std.proofs.Common.{sym, ap, ◌∙◌, add-zero, mul-le-mul_right, mod-eq_of_lt, arith, length-drop, pow_mono, get_or-drop, drop-drop, leb-true}
 use Rattle.std.specs.Int.Bits.{bit_or, bit_xor}
 use Rattle.shape.specs.LimitsLaws.{both}
 use Rattle.model.specs.Level.{Bucket}
@@ -14,7 +14,7 @@ use Rattle.words.specs.Slot.{front, front_at, cons_same, part_all, part-past}
 use Rattle.words.specs.Bits.{or_none, or_least, xor_none}
 use Rattle.pass_laws.specs.Pass.{least_of}
 use Rattle.pass_laws.proofs.PassLaws.{reached}
-use Rattle.quick_laws.specs.Quick.{quick_each, most_of, is_enough, is_tried, weighs}
+use Rattle.quick_laws.specs.Quick.{quick_each, most_of, is_enough, is_tried}
 use Rattle.quick_laws.proofs.QuickLaws.{Enough, Leads, Held, width_of_first, mark_inside, quick_end, all_before, each_before, all_held, each_held, is_enough_tests, is_tried_tests}
 use Rattle.quick_laws.specs.Rows.{open_row, row_slots, quick_row, end_at, seam_at, quick_turn, quick_turns, begun, join_rows, ReadRows, ByRows}
 use Rattle.quick_laws.specs.declared.Quick.{Quick}

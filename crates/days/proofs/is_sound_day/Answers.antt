@@ -4,7 +4,7 @@ use borrow.Author.Tests.{eq-eqb, ne_eqb}
 use mathlib.Core.Path.{sym, ◌∙◌}
 use Prim.Native.Nat.{◌/◌}
 use lib.ListN.{length}
-use Rattle.model.specs.Trace.{record_words, record_at, sound_day}
+use Rattle.model.specs.Trace.{record_words, sound_day}
 use Rattle.laws.specs.AllFrom.{all_left-start, all_left_step, all_left_end}
 use Rattle.days.proofs.is_sound_day.Invariants.{sound}
 use Rattle.days.proofs.is_sound_day.Goals as goal

@@ -1,7 +1,7 @@
 -- The branch of two digits or more stores what `digits_of` says.
 use native.Mathlib.Omega.{arith}
 use Prim.Native.Nat.{◌-◌, ◌/◌}
-use Rattle.text.specs.TextLaws.{digits_most, digits_length, digits_stored}
+use Rattle.text.specs.TextLaws.{digits_most, digits_stored}
 use Rattle.text.proofs.+digits.Goals as goal
 
 pub bounds-out-end : goal.bounds-out-end

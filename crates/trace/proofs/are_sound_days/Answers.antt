@@ -1,7 +1,7 @@
 -- The days that are left to test at j and those passed give the whole test.
 use native.Mathlib.Omega.{arith}
 use mathlib.Core.Path.{◌≡◌, refl, sym, ap, ◌∙◌}
-use lib.ListN.{length, take, drop}
+use lib.ListN.{take, drop}
 use Rattle.model.specs.Trace.{sound_day, pair_start}
 use Rattle.laws.specs.AllFrom.{all_left-start, all_left_step, all_left_end}
 use Rattle.days.specs.declared.Pair.{Pair}

@@ -3,7 +3,6 @@ use native.Mathlib.Omega.{arith}
 use mathlib.Core.Path.{◌≡◌, sym, ap, ◌∙◌}
 use Prim.Native.Nat.{ℕ, ◌+◌, ◌-◌}
 use native.Mathlib.Nat.{sub-zero}
-use lib.ListN.{length}
 use Rattle.model.specs.Trace.{pair_start, day_start, day_length, laid}
 use Rattle.days.specs.declared.Pair.{Pair}
 use Rattle.trace.specs.TraceLaws.{laid-past, laid_apart, laid_meets, laid_end}

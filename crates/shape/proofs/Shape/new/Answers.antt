@@ -1,7 +1,6 @@
 -- Each test is one conjunct of `within`: the first that fails makes it false, and after the last it is true.
-use Rattle.std.proofs.Common.{◌≡◌, true, sym, ◌∙◌, arith}
-use Rattle.shape.specs.Limits.{between, within, checked, reply_of}
-use Rattle.shape.specs.LimitsLaws.{within_limits}
+use Rattle.std.proofs.Common.{◌≡◌, true, sym, ◌∙◌}
+use Rattle.shape.specs.Limits.{within, checked, reply_of}
 use Rattle.shape.proofs.Shape.new.Goals as goal
 use Rattle.shape.proofs.Shape.new.Goals.{After-is_between-4, Else-not-is_between-4}
 

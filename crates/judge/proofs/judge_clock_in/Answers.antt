@@ -1,6 +1,8 @@
 -- The tests are those of the refusals that are left, in their order.
 use borrow.Author.Tests.{le-ltb, lt-ltb}
 use mathlib.Core.Bool.{cond, not}
+use native.Mathlib.Omega.{arith}
+use Prim.Native.Nat.{◌≤◌}
 use mathlib.Core.Path.{◌≡◌, ◌∙◌, ap}
 use lib.Dec.{ltb}
 use Rattle.model.specs.declared.Call.TheVariants.{Clock}
@@ -23,7 +25,8 @@ returns-then-past c =
 
 pub returns-then-back : goal.returns-then-back
 returns-then-back c =
-    told_judgement _ _ _ (clock_judges c.args.book.now c.args.s c.args.clock c.requires c.args.to ∙ first_later _ _ (le-ltb max_clock c.args.to c.if-past.false) ∙ first_here _ _ (lt-ltb c.args.to c.args.clock c.if-back.true))
+    let within : c.args.to ≤ max_clock = omega arith in
+    told_judgement _ _ _ (clock_judges c.args.book.now c.args.s c.args.clock c.requires c.args.to ∙ first_later _ _ (le-ltb max_clock c.args.to within) ∙ first_here _ _ (lt-ltb c.args.to c.args.clock c.if-back.true))
 
 pub all_sound-requires : goal.all_sound-requires
 all_sound-requires c =

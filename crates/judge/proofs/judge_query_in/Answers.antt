@@ -2,6 +2,7 @@
 use native.Mathlib.Omega.{arith}
 use borrow.Author.Tests.{le-ltb, lt-ltb}
 use mathlib.Core.Bool.{cond, not}
+use Prim.Native.Nat.{◌<◌}
 use mathlib.Core.Path.{◌≡◌, ◌∙◌, ap}
 use lib.Dec.{ltb}
 use Rattle.model.specs.declared.Call.TheVariants.{Query}
@@ -34,7 +35,9 @@ pub returns-then-not-known : goal.returns-then-not-known
 returns-then-not-known c = told_judgement _ _ _ (told (goal.at.returns-then-not-known c).After-power-widest ∙ first_here _ _ (ap not (le-ltb c.args.grade c.args.s.g c.if-not-known.true)))
 
 pub returns-then-wide : goal.returns-then-wide
-returns-then-wide c = told_judgement _ _ _ (told (goal.at.returns-then-wide c).After-power-widest ∙ first_later _ _ (ap not (lt-ltb c.args.grade c.args.s.g c.if-not-known.false)) ∙ first_here _ _ (lt-ltb c.power-widest.result c.args.window c.if-wide.true))
+returns-then-wide c =
+    let known : c.args.grade < c.args.s.g = omega arith in
+    told_judgement _ _ _ (told (goal.at.returns-then-wide c).After-power-widest ∙ first_later _ _ (ap not (lt-ltb c.args.grade c.args.s.g known)) ∙ first_here _ _ (lt-ltb c.power-widest.result c.args.window c.if-wide.true))
 
 pub block_sound-requires : goal.block_sound-requires
 block_sound-requires c =

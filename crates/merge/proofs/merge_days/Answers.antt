@@ -1,6 +1,6 @@
 -- Each way out of the tests is one case of the definition.
 use borrow.Author.Tests.{eqb-true}
-use mathlib.Core.Bool.{◌&&◌}
+use mathlib.Core.Bool.{true, ◌&&◌}
 use mathlib.Core.List.{[]}
 use mathlib.Core.Path.{◌≡◌, sym, ap, ap₂, ◌∙◌}
 use Prim.Native.Nat.{◌+◌}
@@ -29,7 +29,8 @@ pub returns-then-not-fits : goal.returns-then-not-fits
 unfolding reply_of
 returns-then-not-fits c =
     let a = c.args in
-    other_length a.a.now a.b.now a.out.now (sym (ordered (goal.at.returns-then-not-fits c).After-both-ordered) ∙ c.if-not-ordered.false) (sym c.is_sum-fits.ensures ∙ c.if-not-fits.true)
+    let in_order : c.both-ordered.result ≡ true = cc in
+    other_length a.a.now a.b.now a.out.now (sym (ordered (goal.at.returns-then-not-fits c).After-both-ordered) ∙ in_order) (sym c.is_sum-fits.ensures ∙ c.if-not-fits.true)
 
 pub merge_records-requires : goal.merge_records-requires
 merge_records-requires c =

@@ -1,6 +1,8 @@
 -- The records that are left to test at i, after the clock of those before, give the whole test.
 use native.Mathlib.Omega.{arith}
 use mathlib.Core.Path.{sym, ap, ◌∙◌}
+use Prim.Native.Nat.{◌≤◌}
+use Rattle.model.specs.Sound.{max_clock}
 use Rattle.model.specs.Merge.{clock_after}
 use Rattle.order.specs.OrderLaws.{orderly-start, orderly_end, orderly-falls, orderly_passes, orderly_step}
 use Rattle.order.proofs.is_orderly.Goals as goal
@@ -20,9 +22,10 @@ returns-then-next-gt-MAX_CLOCK c =
 
 pub loop-i-preserved : goal.loop-i-preserved
 loop-i-preserved c =
-    let is = c.clock_after-next.ensures ∙ ap (clock_after c.loop-i.clock) c.record_at.ensures in (
+    let is = c.clock_after-next.ensures ∙ ap (clock_after c.loop-i.clock) c.record_at.ensures in
+    let low : c.clock_after-next.result ≤ max_clock = omega arith in (
       omega arith,
-      sym (orderly_step c.args.day.now c.loop-i.i c.loop-i.clock _ c.loop-i-test.true is c.if-next-clock.false c.if-next-gt-MAX_CLOCK.false) ∙ c.loop-i.invariant.1,
+      sym (orderly_step c.args.day.now c.loop-i.i c.loop-i.clock _ c.loop-i-test.true is c.if-next-clock.false low) ∙ c.loop-i.invariant.1,
     )
 
 pub returns : goal.returns

@@ -1,4 +1,5 @@
 -- The two early returns and the limit are the three tests of `grows`, in their order.
+use Rattle.std.proofs.Common.{◌≢◌}
 use mathlib.Core.Bool.{true}
 use mathlib.Core.Path.{◌≡◌, sym, ◌∙◌}
 use borrow.Author.Tests.{eq-eqb, ne_eqb, le-leb, lt-leb}
@@ -21,7 +22,11 @@ pub overflow_sub-next : goal.overflow_sub-next
 overflow_sub-next c = omega (arith, between_limits 48 c.args.byte 57 (digit (goal.at.overflow_sub-next c).Else-not-is_digit))
 
 pub returns-then-next-le-LARGEST : goal.returns-then-next-le-LARGEST
-returns-then-next-le-LARGEST c = simp (digit (goal.at.returns-then-next-le-LARGEST c).Else-not-is_digit, ne_eqb _ _ c.if-value-eq0.false, le-leb _ _ c.if-next-le-LARGEST.true)
+returns-then-next-le-LARGEST c =
+    let some : c.args.value ≢ 0 = omega arith in
+    simp (digit (goal.at.returns-then-next-le-LARGEST c).Else-not-is_digit, ne_eqb _ _ some, le-leb _ _ c.if-next-le-LARGEST.true)
 
 pub returns-else-next-le-LARGEST : goal.returns-else-next-le-LARGEST
-returns-else-next-le-LARGEST c = simp (digit (goal.at.returns-else-next-le-LARGEST c).Else-not-is_digit, ne_eqb _ _ c.if-value-eq0.false, lt-leb _ _ c.if-next-le-LARGEST.false)
+returns-else-next-le-LARGEST c =
+    let some : c.args.value ≢ 0 = omega arith in
+    simp (digit (goal.at.returns-else-next-le-LARGEST c).Else-not-is_digit, ne_eqb _ _ some, lt-leb _ _ c.if-next-le-LARGEST.false)

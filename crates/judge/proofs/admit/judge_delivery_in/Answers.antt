@@ -1,7 +1,7 @@
 -- The tests are those of the refusals that are left, in their order; after 8 the sum with 2^k cannot wrap.
 use native.Mathlib.Omega.{arith}
 use borrow.Author.Tests.{le-leb, lt-ltb, le-ltb}
-use mathlib.Core.Bool.{cond, not}
+use mathlib.Core.Bool.{false, cond, not}
 use mathlib.Core.Path.{◌≡◌, sym, ◌∙◌, ap}
 use Prim.Native.Nat.{◌+◌, ◌^◌, ◌≤◌}
 use lib.Dec.{ltb}
@@ -30,7 +30,8 @@ returns-then-outside c = told_judgement _ _ _ (told (goal.at.returns-then-outsid
 pub returns-then-clock-stamp : goal.returns-then-clock-stamp
 returns-then-clock-stamp c =
     let a = c.args in
-    told_judgement _ _ _ (told (goal.at.returns-then-clock-stamp c).After-is_outside-outside ∙ first_later _ _ (ap not (lt-ltb c.args.grade c.args.s.g c.if-not-known.false)) ∙ first_later _ _ c.if-outside.false ∙ first_here _ _ (lt-ltb a.clock a.stamp c.if-clock-stamp.true))
+    let fair : c.is_outside-outside.result ≡ false = cc in
+    told_judgement _ _ _ (told (goal.at.returns-then-clock-stamp c).After-is_outside-outside ∙ first_later _ _ (ap not (lt-ltb c.args.grade c.args.s.g c.if-not-known.false)) ∙ first_later _ _ fair ∙ first_here _ _ (lt-ltb a.clock a.stamp c.if-clock-stamp.true))
 
 pub power-requires : goal.power-requires
 power-requires c =

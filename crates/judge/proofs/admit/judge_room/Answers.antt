@@ -1,5 +1,5 @@
 -- The tests are those of the two refusals that are left, in their order.
-use mathlib.Core.Bool.{cond, not}
+use mathlib.Core.Bool.{true, cond, not}
 use mathlib.Core.Path.{◌≡◌, ◌∙◌, ap}
 use Rattle.model.specs.declared.Call.TheVariants.{Delivery}
 use Rattle.book.specs.Head.{told_judgement}
@@ -23,7 +23,9 @@ pub returns-then-not-sound : goal.returns-then-not-sound
 returns-then-not-sound c = told_judgement _ _ _ (room (goal.at.returns-then-not-sound c).After-block_full-full ∙ first_here _ _ (ap not c.if-not-sound.true))
 
 pub returns-then-full : goal.returns-then-full
-returns-then-full c = told_judgement _ _ _ (room (goal.at.returns-then-full c).After-block_full-full ∙ first_later _ _ (ap not c.if-not-sound.false) ∙ first_here _ _ c.if-full.true)
+returns-then-full c =
+    let sound : c.block_sound-sound.result ≡ true = cc in
+    told_judgement _ _ _ (room (goal.at.returns-then-full c).After-block_full-full ∙ first_later _ _ (ap not sound) ∙ first_here _ _ c.if-full.true)
 
 pub returns : goal.returns
 returns c =

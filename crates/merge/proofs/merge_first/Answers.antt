@@ -31,7 +31,8 @@ pub returns-then-not-there : goal.returns-then-not-there
 unfolding reply_of
 returns-then-not-there c =
     let a = c.args in
-    missing_merge a.first.now a.i a.second.now a.j a.out.now (sym (sound (goal.at.returns-then-not-there c).After-both-sound) ∙ c.if-not-sound.false) (sym (there (goal.at.returns-then-not-there c).After-both-there) ∙ c.if-not-there.true)
+    let whole : c.both-sound.result ≡ true = cc in
+    missing_merge a.first.now a.i a.second.now a.j a.out.now (sym (sound (goal.at.returns-then-not-there c).After-both-sound) ∙ whole) (sym (there (goal.at.returns-then-not-there c).After-both-there) ∙ c.if-not-there.true)
 
 -- what both tests tell of each side
 record Present (a : List ℕ) (i : ℕ) : Type 0 where

@@ -88,13 +88,5 @@ pub fn is_sound_day(day: &[u32]) -> bool
     if day.len() % RECORD_WORDS != 0 {
         return false;
     }
-    let count = day.len() / RECORD_WORDS;
-    let mut i: usize = 0;
-    while i < count {
-        if !is_sound_record(record_at(day, i)) {
-            return false;
-        }
-        i += 1;
-    }
-    true
+    (0..day.len() / RECORD_WORDS).all(|i| is_sound_record(record_at(day, i)))
 }

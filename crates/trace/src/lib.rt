@@ -23,8 +23,7 @@ fn is_laid(trace: &[u32], days: usize) -> bool
     ensures { result ≡ laid trace.now (pair_start days) 0 days }
 {
     let mut at = 1 + 2 * days;
-    let mut j: usize = 0;
-    while j < days {
+    for j in 0..days {
         let pair = pair_at(trace, j);
         if wide(pair.start) != at {
             return false;
@@ -34,7 +33,6 @@ fn is_laid(trace: &[u32], days: usize) -> bool
             return false;
         }
         at += length;
-        j += 1;
     }
     at == trace.len()
 }
@@ -44,14 +42,7 @@ fn are_sound_days(trace: &[u32], days: usize) -> bool
     requires { (pair_start days ≤ length trace.now) × (laid trace.now (pair_start days) 0 days ≡ true) }
     ensures { result ≡ all_from (λ j. sound_day (day_part trace.now j)) 0 days }
 {
-    let mut j: usize = 0;
-    while j < days {
-        if !is_sound_day(day_at(trace, pair_at(trace, j))) {
-            return false;
-        }
-        j += 1;
-    }
-    true
+    (0..days).all(|j| is_sound_day(day_at(trace, pair_at(trace, j))))
 }
 
 // Whether the trace is sound: its layout, and every record of every day.

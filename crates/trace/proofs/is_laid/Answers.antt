@@ -23,23 +23,23 @@ meets c =
     ∙ ap (λ (n : ℕ). laid a.trace.now (c.loop-j.at + n) (c.loop-j.j + 1) (a.days - (c.loop-j.j + 1))) (sym sized)
 
 pub loop-j-init : goal.loop-j-init
-loop-j-init c = let a = c.args in (omega arith, omega arith, ap (laid a.trace.now (pair_start a.days) 0) (sub-zero a.days))
+loop-j-init c = let a = c.args in (omega arith, ap (laid a.trace.now (pair_start a.days) 0) (sub-zero a.days))
 
 pub returns-then-wide-at : goal.returns-then-wide-at
 returns-then-wide-at c =
     let a = c.args in
-    sym (laid_apart a.trace.now a.days c.loop-j.at c.loop-j.j c.loop-j-test.true (λ e. c.if-wide-at.true (starts (goal.at.returns-then-wide-at c).After-wide ∙ e))) ∙ c.loop-j.invariant.2
+    sym (laid_apart a.trace.now a.days c.loop-j.at c.loop-j.j c.loop-j-test.true (λ e. c.if-wide-at.true (starts (goal.at.returns-then-wide-at c).After-wide ∙ e))) ∙ c.loop-j.invariant.1
 
 pub returns-then-trace-at : goal.returns-then-trace-at
 returns-then-trace-at c =
     let a = c.args in
-    let none = laid-past a.trace.now (a.days - (c.loop-j.j + 1)) (c.loop-j.at + c.wide-length.result) (c.loop-j.j + 1) (omega (arith, c.if-trace-at.true, c.loop-j.invariant.1)) in
-    sym none ∙ sym (meets (goal.at.returns-then-trace-at c).After-wide-length) ∙ c.loop-j.invariant.2
+    let none = laid-past a.trace.now (a.days - (c.loop-j.j + 1)) (c.loop-j.at + c.wide-length.result) (c.loop-j.j + 1) (omega (arith, c.if-trace-at.true, c.loop-j.invariant.0)) in
+    sym none ∙ sym (meets (goal.at.returns-then-trace-at c).After-wide-length) ∙ c.loop-j.invariant.1
 
 pub loop-j-preserved : goal.loop-j-preserved
-loop-j-preserved c = (omega arith, omega arith, sym (meets (goal.at.loop-j-preserved c).After-wide-length) ∙ c.loop-j.invariant.2)
+loop-j-preserved c = (omega arith, sym (meets (goal.at.loop-j-preserved c).After-wide-length) ∙ c.loop-j.invariant.1)
 
 pub returns : goal.returns
 returns c =
     let a = c.args in
-    sym (laid_end a.trace.now a.days c.loop-j.at c.loop-j.j c.loop-j-test.false) ∙ c.loop-j.invariant.2
+    sym (laid_end a.trace.now a.days c.loop-j.at c.loop-j.j c.loop-j-test.false) ∙ c.loop-j.invariant.1

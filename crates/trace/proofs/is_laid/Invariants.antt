@@ -5,7 +5,4 @@ use Rattle.model.specs.Trace.{pair_start, laid}
 use Rattle.trace.proofs.is_laid.Given as goal
 
 abbrev pub invariant-loop-j : goal.invariant-loop-j
-invariant-loop-j l = (l.j ≤ l.days) × (l.at ≤ length l.trace) × (laid l.trace l.at l.j (l.days - l.j) ≡ laid l.trace (pair_start l.days) 0 l.days)
-
-abbrev pub decreases-loop-j : goal.decreases-loop-j
-decreases-loop-j l = l.days - l.j
+invariant-loop-j l = (l.at ≤ length l.trace) × (laid l.trace l.at l.j (l.days - l.j) ≡ laid l.trace (pair_start l.days) 0 l.days)

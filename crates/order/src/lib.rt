@@ -22,10 +22,8 @@ pub fn clock_after(before: u32, it: Record) -> u32
 fn is_orderly(day: &[u32]) -> bool
     ensures { result ≡ orderly 0 (records_of day.now) }
 {
-    let count = day.len() / RECORD_WORDS;
     let mut clock: u32 = 0;
-    let mut i: usize = 0;
-    while i < count {
+    for i in 0..day.len() / RECORD_WORDS {
         let next = clock_after(clock, record_at(day, i));
         if next < clock {
             return false;
@@ -34,7 +32,6 @@ fn is_orderly(day: &[u32]) -> bool
             return false;
         }
         clock = next;
-        i += 1;
     }
     true
 }

@@ -42,11 +42,8 @@ fn play_day(book: &mut [u32], day: &[u32], answers: &mut [u32])
     ensures left { book.new ≡ left_by book.old (map call_of (records_of day.now)) }
     ensures told { answers.new ≡ with_answers (replies_to book.old (map call_of (records_of day.now))) answers.old }
 {
-    let count = day.len() / RECORD_WORDS;
-    let mut i: usize = 0;
-    while i < count {
+    for i in 0..day.len() / RECORD_WORDS {
         play(book, record_at(day, i), answers, ANSWER_WORDS * i);
-        i += 1;
     }
 }
 

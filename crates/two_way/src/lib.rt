@@ -82,16 +82,13 @@ pub fn merge_records(a: &[u32], b: &[u32], out: &mut [u32])
     requires { (length a.now % record_words ≡ 0) × (length b.now % record_words ≡ 0) × (length out.old ≡ length a.now + length b.now) }
     ensures { out.new ≡ merged_words a.now b.now }
 {
-    let count = out.len() / RECORD_WORDS;
     let mut p = Place {
         i: 0,
         c: 0,
         j: 0,
         d: 0,
     };
-    let mut to: usize = 0;
-    while to < count {
+    for to in 0..out.len() / RECORD_WORDS {
         p = take_next(a, b, p, out);
-        to += 1;
     }
 }

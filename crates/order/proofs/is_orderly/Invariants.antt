@@ -6,7 +6,4 @@ use Rattle.order.specs.OrderLaws.{orderly_from}
 use Rattle.order.proofs.is_orderly.Given as goal
 
 abbrev pub invariant-loop-i : goal.invariant-loop-i
-invariant-loop-i l = (l.i ≤ l.count) × (orderly_from l.day l.i l.clock ≡ orderly 0 (records_of l.day))
-
-abbrev pub decreases-loop-i : goal.decreases-loop-i
-decreases-loop-i l = l.count - l.i
+invariant-loop-i l = (orderly_from l.day l.i l.clock ≡ orderly 0 (records_of l.day))

@@ -7,7 +7,4 @@ use Rattle.replay.proofs.play_day.Given as goal
 
 abbrev pub invariant-loop-i : goal.invariant-loop-i
 invariant-loop-i l =
-    (l.i ≤ l.count) × (answer_words * l.count ≤ length l.answers) × (length l.book ≡ length l.initial.book) × (length l.answers ≡ length l.initial.answers) × Played l.initial.book l.day l.initial.answers l.i l.book l.answers
-
-abbrev pub decreases-loop-i : goal.decreases-loop-i
-decreases-loop-i l = l.count - l.i
+    Played l.initial.book l.day l.initial.answers l.i l.book l.answers

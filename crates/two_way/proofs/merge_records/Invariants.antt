@@ -6,7 +6,4 @@ use Rattle.two_way.proofs.merge_records.Given as goal
 
 abbrev pub invariant-loop-to : goal.invariant-loop-to
 invariant-loop-to l =
-    Merging l.a l.b l.p.i l.p.c l.p.j l.p.d l.out × (l.p.i + l.p.j ≡ l.to) × (l.to ≤ l.count) × (length l.out ≡ length l.initial.out)
-
-abbrev pub decreases-loop-to : goal.decreases-loop-to
-decreases-loop-to l = l.count - l.to
+    Merging l.a l.b l.p.i l.p.c l.p.j l.p.d l.out × (l.p.i + l.p.j ≡ l.to)

@@ -1,3 +1,4 @@
 pub mod Pair
 pub mod Records
 pub mod Counted
+pub mod Kind

@@ -3,10 +3,10 @@
 
 ghost use Rattle.std.specs.Prelude.{◌≡◌, ◌+◌, ◌*◌, ◌≤◌, length, take, drop};
 ghost use Rattle.model.specs.Trace.{record_words, record_at, sound_record, call_of, sound_day, pair_start};
+ghost use Rattle.days.specs.Kind.{kind_of};
 ghost use Rattle.days.specs.Pair.{pair_at};
 
 use model::{CLOCK_KIND, Call, DELIVERY_KIND, QUERY_KIND, RECORD_WORDS, Record};
-use words::{both, wide};
 
 // Where a day starts in the trace, and how many words it has.
 #[derive(Clone, Copy)]
@@ -31,8 +31,8 @@ pub fn day_at(trace: &[u32], pair: Pair) -> &[u32]
     requires { pair.start + pair.length ≤ length trace.now }
     ensures { result.now ≡ take pair.length (drop pair.start trace.now) }
 {
-    let start = wide(pair.start);
-    let end = start + wide(pair.length);
+    let start = pair.start as usize;
+    let end = start + pair.length as usize;
     &trace[start..end]
 }
 
@@ -49,22 +49,41 @@ pub fn record_at(day: &[u32], i: usize) -> Record
     }
 }
 
+// The kinds of record: that of a clock, of a delivery and of a question.
+#[derive(Clone, Copy)]
+pub enum Kind {
+    Clock,
+    Delivery,
+    Query,
+}
+
+// The kind that a record's first word names, if it names one.
+pub fn kind_of(word: u32) -> Option<Kind>
+    ensures { result ≡ kind_of word }
+{
+    match word {
+        CLOCK_KIND => Some(Kind::Clock),
+        DELIVERY_KIND => Some(Kind::Delivery),
+        QUERY_KIND => Some(Kind::Query),
+        _ => None,
+    }
+}
+
+// A record of no kind is never played: whatever call it gives, its trace is unsound.
 pub fn call_of(it: Record) -> Call
     ensures { result ≡ call_of it }
 {
-    if it.kind == CLOCK_KIND {
-        return Call::Clock { clock: it.first };
-    }
-    if it.kind == DELIVERY_KIND {
-        return Call::Delivery {
+    match kind_of(it.kind).unwrap_or(Kind::Query) {
+        Kind::Clock => Call::Clock { clock: it.first },
+        Kind::Delivery => Call::Delivery {
             grade: it.first,
             stamp: it.second,
             volume: it.third,
-        };
-    }
-    Call::Query {
-        grade: it.first,
-        window: it.second,
+        },
+        Kind::Query => Call::Query {
+            grade: it.first,
+            window: it.second,
+        },
     }
 }
 
@@ -72,13 +91,12 @@ pub fn call_of(it: Record) -> Call
 fn is_sound_record(it: Record) -> bool
     ensures { result ≡ sound_record it }
 {
-    if it.kind == CLOCK_KIND {
-        return both(it.second == 0, it.third == 0);
+    match kind_of(it.kind) {
+        Some(Kind::Clock) => it.second == 0 && it.third == 0,
+        Some(Kind::Delivery) => true,
+        Some(Kind::Query) => it.third == 0,
+        None => false,
     }
-    if it.kind == DELIVERY_KIND {
-        return true;
-    }
-    both(it.kind == QUERY_KIND, it.third == 0)
 }
 
 // Whether the words are whole records, each sound.

@@ -1,16 +1,12 @@
--- Each way out of the tests is one case of the definition.
-use borrow.Author.Tests.{eq-eqb, ne_eqb}
-use Rattle.model.specs.Trace.{call_of}
+-- Each arm is one case of the definition.
+use Rattle.days.specs.Kind.{call_by_kind}
 use Rattle.days.proofs.call_of.Goals as goal
 
-pub returns-then-it-eq-CLOCK_KIND : goal.returns-then-it-eq-CLOCK_KIND
-unfolding call_of
-returns-then-it-eq-CLOCK_KIND c = simp (eq-eqb _ _ c.if-it-eq-CLOCK_KIND.true)
+pub returns-in-Clock : goal.returns-in-Clock
+returns-in-Clock c = rw c.in-Clock.is at (call_by_kind c.args.it _ (rw c.kind_of.ensures at c.unwrap_or.ensures))
 
-pub returns-then-it-eq-DELIVERY_KIND : goal.returns-then-it-eq-DELIVERY_KIND
-unfolding call_of
-returns-then-it-eq-DELIVERY_KIND c = simp (ne_eqb _ _ c.if-it-eq-CLOCK_KIND.false, eq-eqb _ _ c.if-it-eq-DELIVERY_KIND.true)
+pub returns-in-Delivery : goal.returns-in-Delivery
+returns-in-Delivery c = rw c.in-Delivery.is at (call_by_kind c.args.it _ (rw c.kind_of.ensures at c.unwrap_or.ensures))
 
-pub returns : goal.returns
-unfolding call_of
-returns c = simp (ne_eqb _ _ c.if-it-eq-CLOCK_KIND.false, ne_eqb _ _ c.if-it-eq-DELIVERY_KIND.false)
+pub returns-in-Query : goal.returns-in-Query
+returns-in-Query c = rw c.in-Query.is at (call_by_kind c.args.it _ (rw c.kind_of.ensures at c.unwrap_or.ensures))

@@ -1,22 +1,22 @@
--- Each way out of the tests is one case of the definition.
+-- Each arm is one case of the definition.
+use Rattle.std.proofs.Common.{◌∙◌}
 use borrow.Author.Tests.{eq-eqb, ne_eqb}
-use Rattle.model.specs.Trace.{sound_record}
+use Rattle.days.specs.Kind.{sound_by_kind}
 use Rattle.days.proofs.is_sound_record.Goals as goal
 
-pub returns-then-it-eq-CLOCK_KIND : goal.returns-then-it-eq-CLOCK_KIND
-unfolding sound_record
-returns-then-it-eq-CLOCK_KIND c =
-    let it = c.args.it in
-    rw (eq-eqb it.kind 1 c.if-it-eq-CLOCK_KIND.true) c.both.ensures
+pub returns-then-it-eq0 : goal.returns-then-it-eq0
+returns-then-it-eq0 c = rw (c.in-Some-Clock.is, c.in-Some-Clock.field-0-is, eq-eqb c.args.it.second 0 c.if-it-eq0.true) at (sound_by_kind c.args.it _ c.kind_of.ensures)
 
-pub returns-then-it-eq-DELIVERY_KIND : goal.returns-then-it-eq-DELIVERY_KIND
-unfolding sound_record
-returns-then-it-eq-DELIVERY_KIND c =
-    let it = c.args.it in
-    rw (ne_eqb it.kind 1 c.if-it-eq-CLOCK_KIND.false, eq-eqb it.kind 2 c.if-it-eq-DELIVERY_KIND.true)
+pub returns-else-it-eq0 : goal.returns-else-it-eq0
+returns-else-it-eq0 c =
+    let no = ne_eqb c.args.it.second 0 c.if-it-eq0.false in
+    no ∙ rw (c.in-Some-Clock.is, c.in-Some-Clock.field-0-is, no) at (sound_by_kind c.args.it _ c.kind_of.ensures)
 
-pub returns : goal.returns
-unfolding sound_record
-returns c =
-    let it = c.args.it in
-    rw (ne_eqb it.kind 1 c.if-it-eq-CLOCK_KIND.false, ne_eqb it.kind 2 c.if-it-eq-DELIVERY_KIND.false) c.both-2.ensures
+pub returns-in-Some-Delivery : goal.returns-in-Some-Delivery
+returns-in-Some-Delivery c = rw (c.in-Some-Delivery.is, c.in-Some-Delivery.field-0-is) at (sound_by_kind c.args.it _ c.kind_of.ensures)
+
+pub returns-in-Some-Query : goal.returns-in-Some-Query
+returns-in-Some-Query c = rw (c.in-Some-Query.is, c.in-Some-Query.field-0-is) at (sound_by_kind c.args.it _ c.kind_of.ensures)
+
+pub returns-in-None : goal.returns-in-None
+returns-in-None c = rw c.in-None.is at (sound_by_kind c.args.it _ c.kind_of.ensures)

@@ -79,12 +79,8 @@ fn ask(book: &[u32], opened: Opened, grade: u32, window: u32) -> u64
     requires { Open book.now opened.shape opened.clock × (first_refusal book.now (Call.Query grade window) ≡ 0) }
     ensures { outcome_of (accepted (result ∷ [])) book.now ≡ perform book.now (Call.Query grade window) }
 {
-    block::window_sum(
-        block_at(book, opened.shape, grade),
-        opened.shape,
-        opened.clock,
-        window,
-    )
+    let words = block_at(book, opened.shape, grade);
+    block::window_sum(words, opened.shape, opened.clock, window)
 }
 
 pub fn query(book: &[u32], grade: u32, window: u32) -> Result<u64, Refusal>

@@ -50,7 +50,7 @@ pub fn record_at(day: &[u32], i: usize) -> Record
 }
 
 // The kinds of record: that of a clock, of a delivery and of a question.
-#[derive(Clone, Copy)]
+#[derive(Clone, Copy, PartialEq, Eq)]
 pub enum Kind {
     Clock,
     Delivery,

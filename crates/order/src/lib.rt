@@ -3,19 +3,22 @@
 
 ghost use Rattle.std.specs.Prelude.{◌≡◌};
 ghost use Rattle.model.specs.Trace.{records_of};
-ghost use Rattle.model.specs.Merge.{clock_after, orderly, mergeable};
+ghost use Rattle.model.specs.Merge.{is_clock, clock_after, orderly, mergeable};
 
-use days::record_at;
-use model::{CLOCK_KIND, MAX_CLOCK, RECORD_WORDS, Record};
+use days::{Kind, kind_of, record_at};
+use model::{MAX_CLOCK, RECORD_WORDS, Record};
+
+fn is_clock(it: Record) -> bool
+    ensures { result ≡ is_clock it }
+{
+    kind_of(it.kind) == Some(Kind::Clock)
+}
 
 // The clock of a record; `before` is that of the record before.
 pub fn clock_after(before: u32, it: Record) -> u32
     ensures { result ≡ clock_after before it }
 {
-    if it.kind == CLOCK_KIND {
-        return it.first;
-    }
-    before
+    if is_clock(it) { it.first } else { before }
 }
 
 // Whether no clock falls or passes the largest.
@@ -44,7 +47,7 @@ pub fn is_mergeable(day: &[u32]) -> bool
         return true;
     }
     let opening = record_at(day, 0);
-    if opening.kind != CLOCK_KIND {
+    if !is_clock(opening) {
         return false;
     }
     is_orderly(day)

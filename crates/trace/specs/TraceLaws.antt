@@ -1,12 +1,12 @@
 -- How the loops of the check go through a trace, and what a sound trace gives. Rests on the laws of tests and lists.
-use Rattle.std.specs.Prelude.{Bool, true, false, cond, not, ◌&&◌, ◌≡◌, refl, List, [], ◌∷◌, ℕ, zero, suc, ◌+◌, ◌-◌, ◌≤◌, ◌<◌, leb, ltb, eqb, length, get_or}
+use Rattle.std.specs.Prelude.{Bool, true, false, cond, not, ◌&&◌, ◌≡◌, refl, List, [], ◌∷◌, ℕ, zero, suc, ◌+◌, ◌-◌, ◌≤◌, ◌<◌, leb, ltb, eqb, length, get_or, Result, Ok, Err}
 use Rattle.std.proofs.Common.{true≢false, ◌∙◌, ⊎_elim, add-one, arith}
 use Rattle.std.proofs.Math.Path.{sym, ap}
 use borrow.Author.Tests.{eq-eqb, ne_eqb, le-leb, lt-leb, ltb-true, eqb-true, lt-ltb, le-ltb}
 use Rattle.shape.specs.Limits.{Reply, refused, accepted}
 use Rattle.shape.specs.LimitsLaws.{both}
 use Rattle.model.specs.declared.Refusal.{Refusal}
-use Rattle.model.specs.Reply.{number_of}
+use Rattle.model.specs.Reply.{number_of, reply_by}
 use Rattle.model.specs.Sound.{all_from}
 use Rattle.model.specs.Calls.{first_of}
 use Rattle.model.specs.Trace.{max_days, sound_day, day_count, pair_start, day_start, day_length, day_part, laid, sound_trace, day_refusals, day_reply, found_day}
@@ -14,8 +14,6 @@ use Rattle.laws.specs.Cond.{lt_or_ge, and-true, and-false, by_eq}
 use Rattle.laws.specs.Parts.{all_from_elim}
 use Rattle.days.specs.declared.Pair.{Pair}
 use Rattle.days.specs.Pair.{pair_at}
-use Rattle.trace.specs.declared.Found.{Found}
-use Rattle.trace.specs.declared.Found.TheVariants.{At, Refused}
 use Rattle.trace.specs.Found.{found_of}
 
 -- ---- days one after another
@@ -204,8 +202,8 @@ module _ (trace : List ℕ) (day : ℕ) where
   pair_of r = record { start = get_or r.values 0 0; length = get_or r.values 1 0 }
 
   -- what an answer of the code says of the day
-  pub at_in : (f : Found) (pair : Pair) → f ≡ At pair → found_of f ≡ day_reply trace day → InTrace pair
-  unfolding found_of
+  pub at_in : (f : Result Pair Refusal) (pair : Pair) → f ≡ Ok pair → found_of f ≡ day_reply trace day → InTrace pair
+  unfolding reply_by
   at_in f pair same e =
       let told = ap found_of (sym same) ∙ e in
       let none : day_refusal ≡ 0 = sym day_refusal_lem ∙ sym (ap (λ (r : Reply). r.number) told) in
@@ -217,8 +215,8 @@ module _ (trace : List ℕ) (day : ℕ) where
         within = rw is (laid_lies trace (day_count trace) (pair_start (day_count trace)) 0 day (sound_facts trace f.0).days (omega arith) (omega (arith, f.1)));
       }
 
-  pub refused-first : (f : Found) (why : Refusal) → f ≡ Refused why → found_of f ≡ day_reply trace day → number_of why ≡ day_refusal
-  unfolding found_of
+  pub refused-first : (f : Result Pair Refusal) (why : Refusal) → f ≡ Err why → found_of f ≡ day_reply trace day → number_of why ≡ day_refusal
+  unfolding reply_by
   refused-first f why same e = ap (λ (r : Reply). r.number) (ap found_of (sym same) ∙ e) ∙ day_refusal_lem
 
   -- the part that is found

@@ -8,14 +8,6 @@ ghost use Rattle.trace.specs.Found.{found_of};
 
 use days::{Pair, day_at, is_sound_day, pair_at};
 use model::{MAX_DAYS, Refusal};
-use words::wide;
-
-// What finding a day answers.
-#[derive(Clone, Copy)]
-pub enum Found {
-    At(Pair),
-    Refused(Refusal),
-}
 
 // Whether the days lie end to end, from the last pair to the end of the trace.
 fn is_laid(trace: &[u32], days: usize) -> bool
@@ -25,10 +17,10 @@ fn is_laid(trace: &[u32], days: usize) -> bool
     let mut at = 1 + 2 * days;
     for j in 0..days {
         let pair = pair_at(trace, j);
-        if wide(pair.start) != at {
+        if pair.start as usize != at {
             return false;
         }
-        let length = wide(pair.length);
+        let length = pair.length as usize;
         if trace.len() - at < length {
             return false;
         }
@@ -52,7 +44,7 @@ pub fn is_sound_trace(trace: &[u32]) -> bool
     if trace.len() == 0 {
         return false;
     }
-    let days = wide(trace[0]);
+    let days = trace[0] as usize;
     if MAX_DAYS < days {
         return false;
     }
@@ -67,16 +59,16 @@ pub fn is_sound_trace(trace: &[u32]) -> bool
 }
 
 // Where a day lies, or why there is none.
-pub fn judge_day(trace: &[u32], day: u32) -> Found
+pub fn judge_day(trace: &[u32], day: u32) -> Result<Pair, Refusal>
     ensures { found_of result ≡ day_reply trace.now day }
 {
     if !is_sound_trace(trace) {
-        return Found::Refused(Refusal::Trace);
+        return Err(Refusal::Trace);
     }
     if trace[0] <= day {
-        return Found::Refused(Refusal::Day);
+        return Err(Refusal::Day);
     }
-    Found::At(pair_at(trace, wide(day)))
+    Ok(pair_at(trace, day as usize))
 }
 
 // The words of a day, uncopied: a part of the caller's trace. It is empty where `judge_day` refuses.
@@ -84,7 +76,7 @@ pub fn find_day(trace: &[u32], day: u32) -> &[u32]
     ensures { result.now ≡ found_day trace.now day }
 {
     match judge_day(trace, day) {
-        Found::At(pair) => day_at(trace, pair),
-        Found::Refused(_) => &trace[..0],
+        Ok(pair) => day_at(trace, pair),
+        Err(_) => &trace[..0],
     }
 }

@@ -23,8 +23,7 @@ returns-then-trace-days c =
 pub returns-then-not-is_laid : goal.returns-then-not-is_laid
 returns-then-not-is_laid c =
     let trace = c.args.trace.now in
-    let days : c.wide-days.result ≡ day_count trace = c.wide-days.ensures in
-    unsound-layout trace (ap (λ (z : ℕ). laid trace (pair_start z) 0 z) (sym days) ∙ sym c.is_laid.ensures ∙ c.if-not-is_laid.true)
+    unsound-layout trace (sym c.is_laid.ensures ∙ c.if-not-is_laid.true)
 
 pub are_sound_days-requires : goal.are_sound_days-requires
 are_sound_days-requires c = (omega arith, sym c.is_laid.ensures ∙ c.if-not-is_laid.false)
@@ -32,6 +31,5 @@ are_sound_days-requires c = (omega arith, sym c.is_laid.ensures ∙ c.if-not-is_
 pub returns : goal.returns
 returns c =
     let trace = c.args.trace.now in
-    let days : c.wide-days.result ≡ day_count trace = c.wide-days.ensures in
-    c.are_sound_days.ensures ∙ ap (λ (z : ℕ). all_from (λ j. sound_day (day_part trace j)) 0 z) days
-    ∙ sound-days trace (omega arith) (omega arith) (ap (λ (z : ℕ). laid trace (pair_start z) 0 z) (sym days) ∙ sym c.is_laid.ensures ∙ c.if-not-is_laid.false)
+    c.are_sound_days.ensures
+    ∙ sound-days trace (omega arith) (omega arith) (sym c.is_laid.ensures ∙ c.if-not-is_laid.false)

@@ -4,17 +4,17 @@
 
 ghost use Rattle.std.specs.Prelude.{true, ◌≡◌, ◌+◌, ◌<◌, ltb, eqb};
 ghost use Rattle.model.specs.Calls.{outcome_of};
-ghost use Rattle.model.specs.Reply.{reply_of};
+ghost use Rattle.model.specs.Reply.{done_reply};
 ghost use Rattle.model.specs.Trace.{sound_day, day_count, day_part, sound_trace};
 ghost use Rattle.model.specs.Merge.{Merges};
 ghost use Rattle.merge_laws.specs.FirstNamed.{merge_days, merge_first};
 
 use days::{day_at, pair_at};
-use model::{Answer, Refusal};
+use model::Refusal;
 use order::is_mergeable;
 use trace::is_sound_trace;
 use two_way::merge_records;
-use words::{both, wide};
+use words::both;
 
 // Whether x and y make up the sum. x + y is not formed, since it might not fit a usize.
 fn is_sum(sum: usize, x: usize, y: usize) -> bool
@@ -27,20 +27,20 @@ fn is_sum(sum: usize, x: usize, y: usize) -> bool
 }
 
 // Merges two sound days, or refuses their order or the output's length.
-fn merge_days(a: &[u32], b: &[u32], out: &mut [u32]) -> Answer
+fn merge_days(a: &[u32], b: &[u32], out: &mut [u32]) -> Result<(), Refusal>
     requires { (sound_day a.now ≡ true) × (sound_day b.now ≡ true) }
-    ensures { outcome_of (reply_of result) out.new ≡ merge_days a.now b.now out.old }
+    ensures { outcome_of (done_reply result) out.new ≡ merge_days a.now b.now out.old }
 {
     let ordered = both(is_mergeable(a), is_mergeable(b));
     let fits = is_sum(out.len(), a.len(), b.len());
     if !ordered {
-        return Answer::Refused(Refusal::Order);
+        return Err(Refusal::Order);
     }
     if !fits {
-        return Answer::Refused(Refusal::Output);
+        return Err(Refusal::Output);
     }
     merge_records(a, b, out);
-    Answer::Done
+    Ok(())
 }
 
 // Whether the trace has such a day, by its count of days. One without words has none.
@@ -58,27 +58,27 @@ fn day_part(trace: &[u32], day: u32) -> &[u32]
     requires { (sound_trace trace.now ≡ true) × (day < day_count trace.now) }
     ensures { result.now ≡ day_part trace.now day }
 {
-    day_at(trace, pair_at(trace, wide(day)))
+    day_at(trace, pair_at(trace, day as usize))
 }
 
 // The merge that takes the first-named trace first.
-fn merge_first(first: &[u32], i: u32, second: &[u32], j: u32, out: &mut [u32]) -> Answer
-    ensures { outcome_of (reply_of result) out.new ≡ merge_first first.now i second.now j out.old }
+fn merge_first(first: &[u32], i: u32, second: &[u32], j: u32, out: &mut [u32]) -> Result<(), Refusal>
+    ensures { outcome_of (done_reply result) out.new ≡ merge_first first.now i second.now j out.old }
 {
     let sound = both(is_sound_trace(first), is_sound_trace(second));
     let there = both(has_day(first, i), has_day(second, j));
     if !sound {
-        return Answer::Refused(Refusal::Trace);
+        return Err(Refusal::Trace);
     }
     if !there {
-        return Answer::Refused(Refusal::Day);
+        return Err(Refusal::Day);
     }
     merge_days(day_part(first, i), day_part(second, j), out)
 }
 
 // Writes a merged day of a day of each trace. In which order records of equal clock stand is undecided.
-pub fn merge(first: &[u32], i: u32, second: &[u32], j: u32, out: &mut [u32]) -> Answer
-    ensures { Merges first.now i second.now j out.old (reply_of result) out.new }
+pub fn merge(first: &[u32], i: u32, second: &[u32], j: u32, out: &mut [u32]) -> Result<(), Refusal>
+    ensures { Merges first.now i second.now j out.old (done_reply result) out.new }
 {
     merge_first(first, i, second, j, out)
 }

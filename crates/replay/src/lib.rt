@@ -2,7 +2,7 @@
 #![tactic(auto)]
 
 ghost use Rattle.std.specs.Prelude.{◌≡◌, map, ◌+◌, ◌*◌, ◌^◌, ◌≤◌, ◌<◌, length, get_or, set};
-ghost use Rattle.model.specs.Reply.{reply_of};
+ghost use Rattle.model.specs.Reply.{reply_of, done_reply};
 ghost use Rattle.model.specs.Calls.{perform};
 ghost use Rattle.model.specs.Trace.{records_of, call_of};
 ghost use Rattle.model.specs.Replay.{answer_words, left_by, replies_to, with_answers, replay};
@@ -10,18 +10,18 @@ ghost use Rattle.replay.specs.Part.{replay_part};
 
 use days::{call_of, day_at, record_at};
 use model::{ANSWER_WORDS, Answer, RECORD_WORDS, Record, Refusal};
-use trace::{Found, judge_day};
+use trace::judge_day;
 
 // The sum of an answered question, else 0.
-fn answer_sum(answer: Answer) -> u32
+fn answer_sum(answer: Result<Answer, Refusal>) -> u32
     requires { get_or (reply_of answer).values 0 0 < 2 ^ 32 }
     ensures { result ≡ get_or (reply_of answer).values 0 0 }
 {
     match answer {
-        Answer::Done => 0,
-        Answer::Splits(_) => 0,
-        Answer::Sum(sum) => sum as u32,
-        Answer::Refused(_) => 0,
+        Ok(Answer::Sum(sum)) => sum as u32,
+        Ok(Answer::Done) => 0,
+        Ok(Answer::Splits(_)) => 0,
+        Err(_) => 0,
     }
 }
 
@@ -48,22 +48,20 @@ fn play_day(book: &mut [u32], day: &[u32], answers: &mut [u32])
 }
 
 // A day that was found, if there is room for its answers.
-fn replay_part(book: &mut [u32], day: &[u32], answers: &mut [u32]) -> Answer
-    ensures { record { reply = reply_of result; book = book.new; answers = answers.new } ≡ replay_part book.old day.now answers.old }
+fn replay_part(book: &mut [u32], day: &[u32], answers: &mut [u32]) -> Result<(), Refusal>
+    ensures { record { reply = done_reply result; book = book.new; answers = answers.new } ≡ replay_part book.old day.now answers.old }
 {
     if answers.len() < ANSWER_WORDS * (day.len() / RECORD_WORDS) {
-        return Answer::Refused(Refusal::Room);
+        return Err(Refusal::Room);
     }
     play_day(book, day, answers);
-    Answer::Done
+    Ok(())
 }
 
 // A day of a trace: on any words, any trace and any number of answer words. A refused replay changes no word.
-pub fn replay(book: &mut [u32], trace: &[u32], day: u32, answers: &mut [u32]) -> Answer
-    ensures { record { reply = reply_of result; book = book.new; answers = answers.new } ≡ replay book.old trace.now day answers.old }
+pub fn replay(book: &mut [u32], trace: &[u32], day: u32, answers: &mut [u32]) -> Result<(), Refusal>
+    ensures { record { reply = done_reply result; book = book.new; answers = answers.new } ≡ replay book.old trace.now day answers.old }
 {
-    match judge_day(trace, day) {
-        Found::At(pair) => replay_part(book, day_at(trace, pair), answers),
-        Found::Refused(why) => Answer::Refused(why),
-    }
+    let pair = judge_day(trace, day)?;
+    replay_part(book, day_at(trace, pair), answers)
 }

@@ -11,10 +11,10 @@ use Rattle.merge.proofs.day_part.Goals.{After-pair_at}
 
 -- the pair that was read is the day's
 pair_is : (c : After-pair_at) → let a = c.args in c.pair_at.result ≡ pair_at a.trace.now a.day
-pair_is c = c.pair_at.ensures ∙ ap (pair_at c.args.trace.now) c.wide.ensures
+pair_is c = c.pair_at.ensures
 
 pub pair_at-requires : goal.pair_at-requires
-pair_at-requires c = let s = sound_facts _ c.requires.0 in omega (arith, s.pairs, c.requires.1, c.wide.ensures)
+pair_at-requires c = let s = sound_facts _ c.requires.0 in omega (arith, s.pairs, c.requires.1)
 
 pub day_at-requires : goal.day_at-requires
 day_at-requires c =

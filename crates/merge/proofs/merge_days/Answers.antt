@@ -9,7 +9,7 @@ use Rattle.shape.specs.Limits.{accepted}
 use Rattle.model.specs.Calls.{outcome_of}
 use Rattle.model.specs.Trace.{records_of}
 use Rattle.model.specs.Merge.{mergeable}
-use Rattle.model.specs.Reply.{reply_of}
+use Rattle.model.specs.Reply.{reply_by}
 use Rattle.days.specs.Records.{day_whole}
 use Rattle.merge_laws.specs.FirstNamed.{unordered_days, other_length, days_merged}
 use Rattle.merge.proofs.merge_days.Goals as goal
@@ -20,13 +20,13 @@ ordered : (c : After-both-ordered) → let a = c.args in c.both-ordered.result �
 ordered c = c.both-ordered.ensures ∙ ap₂ ◌&&◌ c.is_mergeable.ensures c.is_mergeable-2.ensures
 
 pub returns-then-not-ordered : goal.returns-then-not-ordered
-unfolding reply_of
+unfolding reply_by
 returns-then-not-ordered c =
     let a = c.args in
     unordered_days a.a.now a.b.now a.out.now (sym (ordered (goal.at.returns-then-not-ordered c).After-both-ordered) ∙ c.if-not-ordered.true)
 
 pub returns-then-not-fits : goal.returns-then-not-fits
-unfolding reply_of
+unfolding reply_by
 returns-then-not-fits c =
     let a = c.args in
     let in_order : c.both-ordered.result ≡ true = cc in
@@ -38,7 +38,7 @@ merge_records-requires c =
     (day_whole a.a.now c.requires.0, day_whole a.b.now c.requires.1, eqb-true (length a.out.now) (length a.a.now + length a.b.now) (sym c.is_sum-fits.ensures ∙ c.if-not-fits.false))
 
 pub returns : goal.returns
-unfolding reply_of
+unfolding reply_by
 returns c =
     let a = c.args in
     ap (outcome_of (accepted [])) c.merge_records.ensures

@@ -7,7 +7,7 @@ use Prim.Native.Nat.{ℕ, ◌<◌}
 use lib.Dec.{ltb}
 use Rattle.shape.specs.LimitsLaws.{both}
 use Rattle.model.specs.Trace.{day_count, sound_day, sound_trace}
-use Rattle.model.specs.Reply.{reply_of}
+use Rattle.model.specs.Reply.{reply_by}
 use Rattle.trace.specs.TraceLaws.{day_sound}
 use Rattle.merge_laws.specs.FirstNamed.{merge_days, unsound_merge, missing_merge, found_merge}
 use Rattle.merge.proofs.merge_first.Goals as goal
@@ -22,13 +22,13 @@ there : (c : After-both-there) → let a = c.args in
 there c = c.both-there.ensures ∙ ap₂ ◌&&◌ c.has_day.ensures c.has_day-2.ensures
 
 pub returns-then-not-sound : goal.returns-then-not-sound
-unfolding reply_of
+unfolding reply_by
 returns-then-not-sound c =
     let a = c.args in
     unsound_merge a.first.now a.i a.second.now a.j a.out.now (sym (sound (goal.at.returns-then-not-sound c).After-both-sound) ∙ c.if-not-sound.true)
 
 pub returns-then-not-there : goal.returns-then-not-there
-unfolding reply_of
+unfolding reply_by
 returns-then-not-there c =
     let a = c.args in
     let whole : c.both-sound.result ≡ true = cc in

@@ -62,7 +62,13 @@ fn day_part(trace: &[u32], day: u32) -> &[u32]
 }
 
 // The merge that takes the first-named trace first.
-fn merge_first(first: &[u32], i: u32, second: &[u32], j: u32, out: &mut [u32]) -> Result<(), Refusal>
+fn merge_first(
+    first: &[u32],
+    i: u32,
+    second: &[u32],
+    j: u32,
+    out: &mut [u32],
+) -> Result<(), Refusal>
     ensures { outcome_of (done_reply result) out.new ≡ merge_first first.now i second.now j out.old }
 {
     let sound = both(is_sound_trace(first), is_sound_trace(second));

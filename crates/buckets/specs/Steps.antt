@@ -135,10 +135,11 @@ module _ (j : ℕ) (ws : List ℕ) (b : Bucket) {mid : List ℕ} (stored : mid �
   stored_count = stored-below 0 (omega arith)
 
 -- the upper half stands in the bucket's place, and the lower half is put in before it
-pub split_becomes : {n i j half weight : ℕ} {ws mid ws' : List ℕ} {up : ℕ} → half ≡ (slot ws j).width / 2 → weight ≡ 2 ^ i
+pub split_becomes : {n i j half weight : ℕ} {ws mid ws' : List ℕ} {up : ℕ} → half ≡ (slot ws j).width / 2
     → mid ≡ put_slot ws (slot_start j) (bucket_of ((slot ws j).offset + half) half weight)
-    → Becomes n i j [] (bucket_of (slot ws j).offset half weight ∷ []) mid ws' up → Becomes n i j (slot ws j ∷ []) (halves i (slot ws j)) ws ws' up
-split_becomes {n} {j} {half} {weight} {ws} half_is weight_is stored t =
+    → Becomes n i j [] (bucket_of (slot ws j).offset half weight ∷ []) mid ws' up → weight ≡ 2 ^ i
+    → Becomes n i j (slot ws j ∷ []) (halves i (slot ws j)) ws ws' up
+split_becomes {n} {j} {half} {weight} {ws} half_is stored t weight_is =
     let hi = bucket_of ((slot ws j).offset + half) half weight in
     let count = stored_count j ws hi stored in
     rw (← half_is, ← weight_is)

@@ -17,4 +17,4 @@ put_at-requires c =
 pub returns : goal.returns
 returns c =
     let at = ap (λ (b : Bucket). b.offset) c.slot_at.ensures in
-    split_becomes c.requires.2 c.power.ensures (rw at at c.put_slot.ensures) (rw at at c.put_at.ensures)
+    split_becomes c.requires.2 (rw at at c.put_slot.ensures) (rw at at c.put_at.ensures) cc

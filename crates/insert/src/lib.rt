@@ -62,7 +62,7 @@ fn insert_splitting(level: &mut [u32], n: usize, i: u8, x: u32, v: u64, j: usize
     let mut rest = v;
     let mut slot = j;
     let mut splits: u32 = 0;
-    while gets_full(&level[..], i, rest, slot) {
+    while gets_full(level, i, rest, slot) {
         splits += 1;
         let Some(next) = split(level, n, i, x, rest, slot) else {
             return splits;

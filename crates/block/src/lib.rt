@@ -57,12 +57,10 @@ fn check_half(block: &[u32], s: Shape, parity: u8) -> bool
     if capacity(s) < total {
         return false;
     }
-    let mut level: u8 = 0;
-    while level <= s.last {
+    for level in 0..=s.last {
         if !sound::sound_level(level_at(block, s, parity, level), s, level, total) {
             return false;
         }
-        level += 1;
     }
     true
 }
@@ -83,15 +81,13 @@ pub fn finest(block: &[u32], s: Shape, parity: u8, a: u32) -> u8
     requires { Whole s block.now × (parity ≤ 1) }
     ensures { result ≡ serving_index a (decode_half s parity block.now).levels }
 {
-    let mut finest: u8 = 0;
-    while finest < s.last {
+    for finest in 0..s.last {
         let level = level_at(block, s, parity, finest);
         if level[1] <= a {
             return finest;
         }
-        finest += 1;
     }
-    finest
+    s.last
 }
 
 // The sum of a window that opens at tick `start`.

@@ -29,11 +29,8 @@ pub fn clear_blocks(book: &mut [u32], s: Shape)
     requires { (length book.old ≡ book_words s) × Proper s }
     ensures { book.new ≡ take head_len book.old ++ join (up_from (cleared s) 0 s.g) }
 {
-    let count = s.g as u32;
-    let mut grade: u32 = 0;
-    while grade < count {
+    for grade in 0..u32::from(s.g) {
         clear_block(book, s, grade);
-        grade += 1;
     }
 }
 
@@ -51,10 +48,7 @@ pub fn advance_blocks(book: &mut [u32], s: Shape, old: u32, new: u32)
     requires { AllSound s book.old }
     ensures { book.new ≡ take head_len book.old ++ join (up_from (advanced s old new book.old) 0 s.g) }
 {
-    let count = s.g as u32;
-    let mut grade: u32 = 0;
-    while grade < count {
+    for grade in 0..u32::from(s.g) {
         advance_block(book, s, grade, old, new);
-        grade += 1;
     }
 }

@@ -1,4 +1,5 @@
 use mathlib.Core.Path.{◌≡◌, refl, sym, ◌∙◌}
+use Prim.Native.Nat.{◌<◌}
 use native.Mathlib.Numerals.{add-one}
 use Rattle.laws.specs.BookWrites.{swept_none, swept-part, swept-more, swept_all}
 use Rattle.sweep.specs.Sweeps.{advanced, advanced_size}
@@ -13,7 +14,7 @@ loop-grade-init c =
 pub advance_block-requires : goal.advance_block-requires
 advance_block-requires c =
     let l = c.loop-grade in
-    let h = c.loop-grade-test.true in
+    let h : l.grade < c.args.s.g = omega arith in
     let a = c.args in
     let f = advanced a.s a.old a.new a.book.now in
     let part = swept-part a.s f a.book.now c.requires.size (advanced_size a.s a.old a.new a.book.now c.requires) l.grade l.invariant.0 in
@@ -22,7 +23,7 @@ advance_block-requires c =
 pub loop-grade-preserved : goal.loop-grade-preserved
 loop-grade-preserved c =
     let l = c.loop-grade in
-    let h = c.loop-grade-test.true in
+    let h : l.grade < c.args.s.g = omega arith in
     let a = c.args in
     let f = advanced a.s a.old a.new a.book.now in
     let sizes = advanced_size a.s a.old a.new a.book.now c.requires in

@@ -8,6 +8,3 @@ use Rattle.sweep.proofs.advance_blocks.Given as goal
 
 abbrev pub invariant-loop-grade : goal.invariant-loop-grade
 invariant-loop-grade l = (l.grade ≤ l.s.g) × (length l.book ≡ length l.initial.book) × (l.book ≡ swept l.s (advanced l.s l.old l.new l.initial.book) l.grade l.initial.book)
-
-abbrev pub decreases-loop-grade : goal.decreases-loop-grade
-decreases-loop-grade l = l.s.g - l.grade

@@ -1,4 +1,5 @@
 use mathlib.Core.Path.{◌≡◌, refl, sym, ap, ◌∙◌}
+use Prim.Native.Nat.{◌<◌}
 use native.Mathlib.Numerals.{add-one}
 use Rattle.model.specs.Words.{with_block}
 use Rattle.laws.specs.BookWrites.{swept_none, swept-more, swept_all}
@@ -13,12 +14,12 @@ loop-grade-init c =
 pub clear_block-requires : goal.clear_block-requires
 clear_block-requires c =
     let l = c.loop-grade in
-    record { proper = c.requires.1; size = l.invariant.1 ∙ c.requires.0; inside = c.loop-grade-test.true }
+    record { proper = c.requires.1; size = l.invariant.1 ∙ c.requires.0; inside = omega arith }
 
 pub loop-grade-preserved : goal.loop-grade-preserved
 loop-grade-preserved c =
     let l = c.loop-grade in
-    let h = c.loop-grade-test.true in
+    let h : l.grade < c.args.s.g = omega arith in
     let s = c.args.s in (
       omega arith,
       c.clear_block.auto.book ∙ l.invariant.1,

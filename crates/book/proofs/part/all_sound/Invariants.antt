@@ -15,6 +15,3 @@ tested s book grade = sound_block s (block_part s grade book)
 
 abbrev pub invariant-loop-grade : goal.invariant-loop-grade
 invariant-loop-grade l = all_left (tested l.s l.book) l.grade l.s.g ≡ all_from (tested l.s l.book) 0 l.s.g
-
-abbrev pub decreases-loop-grade : goal.decreases-loop-grade
-decreases-loop-grade l = l.s.g - l.grade

@@ -13,7 +13,7 @@ use Rattle.block.proofs.check_half.Goals.{After-sound_level, After-total-total}
 total-is : (c : After-total-total) → let a = c.args in c.total-total.result ≡ get_or a.block.now a.parity 0
 total-is c =
     let a = c.args in
-    let same : a.parity % 2 ≡ a.parity = omega arith in
+    let same : c.from.result % 2 ≡ a.parity = omega arith in
     c.total-total.ensures ∙ ap (λ (z : ℕ). get_or a.block.now z 0) same
 
 -- what is left to test at a level is its own test and what is left at the next

@@ -17,7 +17,7 @@ clear_at-requires c =
     record {
       sized = record { proper = c.requires.0.proper; size = c.loop-i.auto.block ∙ length-set c.args.block.now c.args.parity 0 ∙ c.requires.0.size };
       half = c.requires.1;
-      index = c.loop-i-test.true;
+      index = omega arith;
     }
 
 written : (d : After-clear_at)

@@ -40,8 +40,8 @@ insert_at-splits-requires c =
     let l = c.loop-i in
     let a = c.args in
     let e = l.invariant.1 a.block.now (start (goal.at.insert_at-splits-requires c).After-from) c.requires in (
-      rw e.words (level_in a.s a.stamp a.parity a.x a.v a.block.now c.requires l.i c.loop-i-test.true),
-      rw e.words (delivering_insertable a.s a.stamp a.parity a.x a.v a.block.now c.requires l.i c.loop-i-test.true),
+      rw e.words (level_in a.s a.stamp a.parity a.x a.v a.block.now c.requires l.i (omega arith)),
+      rw e.words (delivering_insertable a.s a.stamp a.parity a.x a.v a.block.now c.requires l.i (omega arith)),
     )
 
 pub overflow_add-splits : goal.overflow_add-splits
@@ -60,8 +60,8 @@ filling d ws e f =
     let done = d.insert_at-splits.ensures in
     let so = l.invariant.1 ws e f in
     record {
-      words = done.words ∙ rw so.words (level_filled a.s a.stamp a.parity a.x a.v ws f l.i d.loop-i-test.true);
-      count = omega (arith, so.count, rw so.words at done.count, level_splits_on a.s a.stamp a.parity a.x a.v ws f l.i d.loop-i-test.true);
+      words = done.words ∙ rw so.words (level_filled a.s a.stamp a.parity a.x a.v ws f l.i (omega arith));
+      count = omega (arith, so.count, rw so.words at done.count, level_splits_on a.s a.stamp a.parity a.x a.v ws f l.i (omega arith));
     }
 
 pub loop-i-preserved : goal.loop-i-preserved

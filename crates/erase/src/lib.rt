@@ -46,7 +46,7 @@ fn clear_half(block: &mut [u32], s: Shape, parity: u8)
 {
     let at = parity as usize;
     block[at] = 0;
-    for i in 0..=s.last {
+    for i in 0..s.last + 1 {
         clear_at(block, s, parity, i);
     }
 }

@@ -66,14 +66,12 @@ fn check_half(block: &[u32], s: Shape, parity: u8) -> bool
 }
 
 // Whether the block is sound. The words may be any.
+#[tactic(auto, unfolding(model::specs::Sound::sound_block))]
 pub fn check(block: &[u32], s: Shape) -> bool
     requires { Sized s block.now }
     ensures { result ≡ sound_block s block.now }
 {
-    if !check_half(block, s, 0) {
-        return false;
-    }
-    check_half(block, s, 1)
+    check_half(block, s, 0) && check_half(block, s, 1)
 }
 
 // The finest level of a half whose F is at most a. The last level has F = 0, so it is not tested.

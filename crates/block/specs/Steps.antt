@@ -30,6 +30,9 @@ pub record LevelIn (s : Shape) (parity i : ℕ) (ws : List ℕ) : Type 0 where
 pub level-within : {s : Shape} {parity i : ℕ} {ws : List ℕ} → LevelIn s parity i ws → (level_start s parity i + level_words s ≤ length ws) × (length ws < 2 ^ 29)
 level-within {s} {parity} {i} w = omega (arith, level_start_fits s parity i w.half w.index, block_words_bits s (omega arith) (omega arith))
 
+-- for a `using` list, which takes no name with a dash
+pub ruleset level_bounds = (level-within)
+
 -- whether level i is sound
 abbrev pub sound_at : Shape → ℕ → List ℕ → ℕ → Bool
 sound_at s parity ws i = sound_level s i (get_or ws (total_start parity) 0) (level_part s parity i ws)

@@ -21,6 +21,7 @@ fn capacity(s: Shape) -> u64
 }
 
 // The words of a level, in the half of a parity.
+#[tactic(auto, using(crate::specs::Steps::level_bounds))]
 pub fn level_at(block: &[u32], s: Shape, parity: u8, i: u8) -> &[u32]
     requires { LevelIn s parity i block.now }
     ensures { result.now ≡ level_part s parity i block.now }

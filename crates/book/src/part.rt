@@ -10,6 +10,7 @@ ghost use Rattle.book.specs.Part.{InBook};
 use shape::Shape;
 
 // The words of a grade's block, as a part of the book.
+#[tactic(auto, using(crate::specs::Part::block_within))]
 pub fn block_at(book: &[u32], s: Shape, grade: u32) -> &[u32]
     requires { InBook s grade book.now }
     ensures { result.now ≡ block_part s grade book.now }

@@ -108,6 +108,7 @@ fn sum(block: &[u32], s: Shape, clock: u32, start: u32) -> u64
 }
 
 // The sum of a window. Window 0 covers no stamp, so nothing is read.
+#[tactic(auto, using(crate::specs::Steps::window_cases))]
 pub fn window_sum(block: &[u32], s: Shape, clock: u32, window: u32) -> u64
     requires { Whole s block.now }
     ensures { result ≡ window_sum s clock window (decode_block s block.now) }

@@ -21,6 +21,7 @@ fn capacity(s: Shape) -> u64
 }
 
 // The words of a level, in the half of a parity.
+#[tactic(auto, using(crate::specs::Steps::level_bounds))]
 pub fn level_at(block: &[u32], s: Shape, parity: u8, i: u8) -> &[u32]
     requires { LevelIn s parity i block.now }
     ensures { result.now ≡ level_part s parity i block.now }
@@ -66,14 +67,12 @@ fn check_half(block: &[u32], s: Shape, parity: u8) -> bool
 }
 
 // Whether the block is sound. The words may be any.
+#[tactic(auto, unfolding(model::specs::Sound::sound_block))]
 pub fn check(block: &[u32], s: Shape) -> bool
     requires { Sized s block.now }
     ensures { result ≡ sound_block s block.now }
 {
-    if !check_half(block, s, 0) {
-        return false;
-    }
-    check_half(block, s, 1)
+    check_half(block, s, 0) && check_half(block, s, 1)
 }
 
 // The finest level of a half whose F is at most a. The last level has F = 0, so it is not tested.
@@ -109,6 +108,7 @@ fn sum(block: &[u32], s: Shape, clock: u32, start: u32) -> u64
 }
 
 // The sum of a window. Window 0 covers no stamp, so nothing is read.
+#[tactic(auto, using(crate::specs::Steps::window_cases))]
 pub fn window_sum(block: &[u32], s: Shape, clock: u32, window: u32) -> u64
     requires { Whole s block.now }
     ensures { result ≡ window_sum s clock window (decode_block s block.now) }

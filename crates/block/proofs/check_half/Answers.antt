@@ -6,7 +6,7 @@ use native.Mathlib.Omega.{arith}
 use lib.ListN.{get_or}
 use Rattle.model.specs.Sound.{sound_half}
 use Rattle.laws.specs.BlockWords.{block_words-halves, length-level_part}
-use Rattle.block.specs.Steps.{sound_at, sound_from, sound_from_step, sound_from-none, sound_from_all, sound_half_over}
+use Rattle.block.specs.Steps.{sound_at, sound_from, sound_from_step, sound_from_all, sound_half_over}
 use Rattle.block.proofs.check_half.Goals as goal
 use Rattle.block.proofs.check_half.Goals.{After-sound_level, After-total-total}
 
@@ -44,14 +44,5 @@ sound_level-requires c =
     let size = length-level_part c.args.s c.args.parity i c.args.block.now c.requires.1 (omega arith) c.requires.0.size in
     (rw c.level_at.ensures size, omega arith, omega arith, omega arith)
 
-pub returns-then-not-sound_level : goal.returns-then-not-sound_level
-returns-then-not-sound_level c = rw c.if-not-sound_level.true at (turn (goal.at.returns-then-not-sound_level c).After-sound_level)
-
 pub loop-level-preserved : goal.loop-level-preserved
 loop-level-preserved c = rw c.if-not-sound_level.false at (turn (goal.at.loop-level-preserved c).After-sound_level)
-
-pub returns-else-not-sound_level : goal.returns-else-not-sound_level
-returns-else-not-sound_level c =
-    let l = c.loop-level in
-    let a = c.args in
-    rw (c.if-not-sound_level.false, sound_from-none a.s a.parity a.block.now (l.level + 1) (omega arith)) at (turn (goal.at.returns-else-not-sound_level c).After-sound_level)

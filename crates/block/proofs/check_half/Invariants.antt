@@ -1,5 +1,4 @@
 use mathlib.Core.Path.{◌≡◌}
-use Prim.Native.Nat.{suc, ◌-◌}
 use Rattle.model.specs.Sound.{sound_half}
 use Rattle.block.specs.Steps.{sound_from}
 use Rattle.block.proofs.check_half.Given as goal

@@ -1,5 +1,5 @@
 use mathlib.Core.Path.{◌≡◌}
-use Prim.Native.Nat.{◌+◌, ◌-◌, ◌≤◌}
+use Prim.Native.Nat.{◌+◌, ◌≤◌}
 use Rattle.model.specs.Block.{serving_index}
 use Rattle.model.specs.Words.{decode_half}
 use Rattle.laws.specs.HalfWrites.{levels_from}

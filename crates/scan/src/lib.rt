@@ -78,7 +78,11 @@ pub fn find(level: &[u32], x: u32) -> usize
 fn counted(b: Slot, a: u32) -> u64
     ensures { (result ≡ cond (leb a b.offset) b.weight 0) × (result < 2 ^ 32) }
 {
-    if a <= b.offset { u64::from(b.weight) } else { 0 }
+    if a <= b.offset {
+        u64::from(b.weight)
+    } else {
+        0
+    }
 }
 
 // The sum of the weights of the buckets that start at a or later.

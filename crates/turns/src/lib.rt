@@ -1,15 +1,14 @@
 // The quick pass over the buckets of a level: sixteen slots a turn, then the slots that are left, one by one.
 #![tactic(auto)]
 
-ghost use Rattle.std.specs.Prelude.{◌≡◌, ◌+◌, ◌*◌, ◌<◌, ◌≤◌, ◌&&◌, length, map, ◌==◌, nat_le};
-ghost use Rattle.words.specs.Slot.{front};
+ghost use Rattle.std.specs.Prelude.{◌≡◌, ◌+◌, ◌-◌, ◌*◌, ◌<◌, ◌≤◌, ◌&&◌, length, ◌==◌, nat_le};
+ghost use Rattle.model.specs.Words.{slots};
 ghost use Rattle.quick_laws.specs.Quick.{fresh, mark, quick_each};
 ghost use Rattle.quick_laws.specs.Rows.{join_rows, ReadRows, ByRows};
 
 use quick_laws::{Quick, Rows};
 use row::{quick_bucket, quick_turn};
-use shape::SLOT_LEN;
-use words::{Slot, both, slots};
+use words::{both, slot_at};
 
 // Before the first bucket, which has this width.
 fn fresh(first: u32, width: u32) -> Quick
@@ -35,13 +34,14 @@ fn mark(t: Quick) -> Quick
     }
 }
 
-// Slots one by one.
-fn quick_rest(t: Quick, slots: &[[u32; SLOT_LEN]], least: u32, most: u32) -> Quick
-    ensures { result ≡ quick_each least most t (map front slots.now) }
+// The slots from `from` on, one by one.
+fn quick_rest(t: Quick, level: &[u32], from: usize, count: usize, least: u32, most: u32) -> Quick
+    requires { 2 + 3 * count ≤ length level.now }
+    ensures { result ≡ quick_each least most t (slots level.now from (count - from)) }
 {
     let mut seen = t;
-    for words in slots {
-        seen = mark(quick_bucket(seen, Slot::from(words), least, most));
+    for next in from..count {
+        seen = mark(quick_bucket(seen, slot_at(level, next), least, most));
     }
     seen
 }
@@ -107,6 +107,5 @@ pub fn quick_buckets(level: &[u32], count: usize, least: u32, most: u32) -> Quic
 {
     let turned = quick_turns(level, count, least, most);
     let rows = turned.rows;
-    let left = &slots(level, count)[turned.at..];
-    quick_rest(join_rows(rows), left, least, most)
+    quick_rest(join_rows(rows), level, turned.at, count, least, most)
 }

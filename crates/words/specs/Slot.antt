@@ -1,9 +1,8 @@
 -- The bucket that a slot's words stand for, and the slots after one that was read. Assumes nothing.
 use Rattle.std.specs.Prelude.{List, ◌∷◌, ◌≡◌, refl, map, ℕ, zero, suc, ◌+◌, ◌-◌, ◌*◌, ◌<◌, ◌≤◌, length, get_or, take, drop}
 use Rattle.std.proofs.Common.{sym, ap, ◌∙◌, add-zero, arith, length-drop, take_all, get_or-drop, drop-drop}
-use Rattle.std.proofs.Math.Nat.{sub-zero}
 use Rattle.std.specs.Simd.{first_chunks}
-use Rattle.std.proofs.lemmas.List.{get_or-take, drop-map}
+use Rattle.std.proofs.lemmas.List.{get_or-take}
 use Rattle.shape.specs.Layout.{slot_len, slot_start}
 use Rattle.model.specs.Level.{Bucket, bucket_of}
 use Rattle.model.specs.Words.{slot, slots}
@@ -44,24 +43,8 @@ chunks-slots ws j zero = refl
 chunks-slots ws j (suc c) =
     let first : front (take 3 (drop (slot_start j) ws)) ≡ slot ws j = front-taken (drop (slot_start j) ws) ∙ front-slot ws j in
     let next : drop 3 (drop (slot_start j) ws) ≡ drop (slot_start (j + 1)) ws =
-        drop-drop 3 (slot_start j) ws ∙ ap (λ (n : ℕ). drop n ws) {x = slot_start j + 3} {y = slot_start (j + 1)} (omega arith) in
+    drop-drop 3 (slot_start j) ws ∙ ap (λ (n : ℕ). drop n ws) {x = slot_start j + 3} {y = slot_start (j + 1)} (omega arith) in
     cons_same first (ap (λ (z : List ℕ). map front (first_chunks 3 c z)) next ∙ chunks-slots ws (j + 1) c)
-
--- the slots from slot j + i on are those from slot j on without the first i
-pub slots_dropped : (ws : List ℕ) (i j c : ℕ) → drop i (slots ws j c) ≡ slots ws (j + i) (c - i)
-slots_dropped ws zero j c = rw (add-zero, sub-zero)
-slots_dropped ws (suc i) j zero = ap (slots ws (j + suc i)) {x = 0} {y = 0 - suc i} (omega arith)
-slots_dropped ws (suc i) j (suc c) =
-    slots_dropped ws i (j + 1) c ∙ ap (λ (z : ℕ). slots ws z (c - i)) {x = j + 1 + i} {y = j + suc i} (omega arith)
-    ∙ ap (slots ws (j + suc i)) {x = c - i} {y = suc c - suc i} (omega arith)
-
--- of chunks that are the slots of a level, those from the i-th on
-pub chunks_left : (ws : List ℕ) (chunks : List (List ℕ)) (i c : ℕ) → map front chunks ≡ slots ws 0 c
-    → map front (take (length chunks - i) (drop i chunks)) ≡ slots ws i (c - i)
-chunks_left ws chunks i c e =
-    ap (map front) (take_all (length chunks - i) (drop i chunks) (omega (arith, length-drop i chunks)))
-    ∙ sym (drop-map front i chunks) ∙ ap (drop i) e ∙ slots_dropped ws i 0 c
-    ∙ ap (λ (z : ℕ). slots ws z (c - i)) {x = 0 + i} {y = i} (omega arith)
 
 -- a part of words that reaches to their end
 pub part_all : (ws : List ℕ) (n : ℕ) → take (length ws - n) (drop n ws) ≡ drop n ws

@@ -26,5 +26,5 @@ returns c =
     let long : part ≤ length (drop a.from ws) = omega (arith, length-drop a.from ws) in
     let parts = rw (part_all ws four, add-sub_cancel_left, add-sub_cancel_left, add-sub_cancel_left, length-take-le part (drop a.from ws) long) at j.ensures in
     let rest : eqb c.bits_from.result 0 ≡ zeros (drop (four + part) ws) =
-        ap (λ (z : ℕ). eqb z 0) c.bits_from.ensures ∙ zeros-joined 0 (drop (four + part) ws) in
+    ap (λ (z : ℕ). eqb z 0) c.bits_from.ensures ∙ zeros-joined 0 (drop (four + part) ws) in
     zeros_quarters ws a.from part j.result c.bits_from.result parts rest

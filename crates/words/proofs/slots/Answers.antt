@@ -11,5 +11,5 @@ returns c =
     let all = drop 2 ws in
     let few : count ≤ length all / 3 = omega (arith, length-drop 2 ws, c.requires) in
     let read : take count c.as_chunks.result.0.now ≡ first_chunks 3 count all =
-        ap (take count) (rw (part_all ws 2) at c.as_chunks.ensures.front) ∙ chunks_taken 3 (length all / 3) count all few in
+    ap (take count) (rw (part_all ws 2) at c.as_chunks.ensures.front) ∙ chunks_taken 3 (length all / 3) count all few in
     (ap (map front) read ∙ chunks-slots ws 0 count, ap length read ∙ length-chunks 3 count all)

@@ -17,6 +17,7 @@ pub struct Line {
 
 impl Line {
     // The line before its first byte.
+    #[tactic(auto, unfolding(crate::specs::Bytes::started))]
     pub fn start() -> Self
         ensures { result ≡ started }
     {
@@ -26,6 +27,7 @@ impl Line {
     }
 
     // The line with one more byte.
+    #[tactic(auto, unfolding(crate::specs::Bytes::stepped))]
     pub fn step(self, byte: u8) -> Self
         ensures { result ≡ stepped self byte }
     {
@@ -35,6 +37,7 @@ impl Line {
     }
 
     // What the line asks for if it ends here.
+    #[tactic(auto, unfolding(crate::specs::Bytes::finished, grammar::specs::Grammar::reading_of))]
     pub fn finish(self) -> Option<Call>
         ensures { reading_of result ≡ finished self }
     {

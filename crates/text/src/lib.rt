@@ -14,12 +14,9 @@ fn copy(text: &[u8], out: &mut [u8], at: usize) -> usize
     ensures value { result ≡ at + length text.now }
     ensures out_after { out.new ≡ sets out.old at text.now }
 {
-    let mut i: usize = 0;
-    while i < text.len() {
-        out[at + i] = text[i];
-        i += 1;
-    }
-    at + text.len()
+    let end = at + text.len();
+    out[at..end].copy_from_slice(text);
+    end
 }
 
 // Writes the digits of a number, at most `most`, into the buffer from `at` on. Returns where they end.
@@ -55,7 +52,7 @@ fn line_of(word: &[u8], x: u64, out: &mut [u8]) -> usize
 fn number(why: Refusal) -> u64
     ensures { result ≡ number_of why }
 {
-    codes::number(why) as u64
+    u64::from(codes::number(why))
 }
 
 // Writes the line of an answer to the front of the buffer. Returns its length. If the buffer is shorter than 32 bytes, it writes nothing and

@@ -10,7 +10,7 @@ pub returns-in-Within : goal.returns-in-Within
 returns-in-Within c =
     let a = c.args in
     let t = checked-within a.k a.n a.m a.g c.in-Within.shape (ap reply_of (sym c.in-Within.is) ∙ c.new.ensures) in
-    c.least.ensures ∙ ap (λ (x : ℕ). min x a.all) (c.book_len.ensures ∙ ap book_words t.1) ∙ rw t.0
+    c.min.ensures ∙ ap (λ (x : ℕ). min x a.all) (c.book_len.ensures ∙ ap book_words t.1) ∙ rw t.0
 
 pub returns-in-Outside : goal.returns-in-Outside
 returns-in-Outside c =

@@ -39,6 +39,7 @@ fn serve(rt: &HostRuntime, book: &mut [u32], out: &mut [u8], chunk: &mut [u8])
     write_out(rt, &out[..], last.used);
 }
 
+#[tactic(auto, unfolding(session::specs::Protocol::zero_buffer))]
 fn main(rt: HostRuntime) {
     let mut book = [0u32; 14836];
     let mut out = [0u8; 65536];

@@ -8,5 +8,5 @@ use Rattle.session.proofs.feed.Given as goal
 
 abbrev pub invariant-loop-byte : goal.invariant-loop-byte
 invariant-loop-byte l =
-    (l.byte-index ≤ length l.bytes) × (length l.book ≡ length l.initial.book) × (length l.out ≡ length l.initial.out) × (l.session.lent ≤ length l.book) × (l.session.used ≤ l.initial.session.used + 32 * l.byte-index)
+    (l.session.lent ≤ length l.book) × (l.session.used ≤ l.initial.session.used + 32 * l.byte-index)
     × (foldl feed_byte (bench_of l.session l.book l.out) (drop l.byte-index l.bytes) ≡ foldl feed_byte (bench_of l.initial.session l.initial.book l.initial.out) l.bytes)

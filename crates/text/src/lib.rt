@@ -57,7 +57,7 @@ fn number(why: Refusal) -> u64
 
 // Writes the line of an answer to the front of the buffer. Returns its length. If the buffer is shorter than 32 bytes, it writes nothing and
 // returns 0.
-pub fn answer(a: Answer, out: &mut [u8]) -> usize
+pub fn answer(a: Result<Answer, Refusal>, out: &mut [u8]) -> usize
     ensures value { result ≡ written (text_of (reply_of a)) out.old }
     ensures out_after { out.new ≡ stored (text_of (reply_of a)) out.old }
 {
@@ -65,10 +65,10 @@ pub fn answer(a: Answer, out: &mut [u8]) -> usize
         return 0;
     }
     match a {
-        Answer::Done => copy(b"ok\n", out, 0),
-        Answer::Splits(_) => copy(b"ok\n", out, 0),
-        Answer::Sum(sum) => line_of(b"= ", sum, out),
-        Answer::Refused(why) => line_of(b"refused ", number(why), out),
+        Ok(Answer::Done) => copy(b"ok\n", out, 0),
+        Ok(Answer::Splits(_)) => copy(b"ok\n", out, 0),
+        Ok(Answer::Sum(sum)) => line_of(b"= ", sum, out),
+        Err(why) => line_of(b"refused ", number(why), out),
     }
 }
 

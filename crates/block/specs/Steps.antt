@@ -9,6 +9,7 @@ use Rattle.shape.specs.declared.Shape.{Shape}
 use Rattle.shape.specs.Layout.{total_start, level_words, level_start}
 use Rattle.shape.specs.LayoutLaws.{block_words_bits}
 use Rattle.model.specs.Block.{interval, offset_of, sum_from, serving, serving_index, answer}
+use Rattle.model.proofs.BlockLaws.{window_sum-none, window_sum_some}
 use Rattle.model.specs.Words.{level_part, decode_level, decode_half, decode_block}
 use Rattle.model.specs.Sound.{all_from, sound_level, sound_half}
 use Rattle.scan.specs.Steps.{sum_from-zero}
@@ -29,6 +30,11 @@ pub record LevelIn (s : Shape) (parity i : ℕ) (ws : List ℕ) : Type 0 where
 -- the level ends within the words, and they are fewer than 2 ^ 29
 pub level-within : {s : Shape} {parity i : ℕ} {ws : List ℕ} → LevelIn s parity i ws → (level_start s parity i + level_words s ≤ length ws) × (length ws < 2 ^ 29)
 level-within {s} {parity} {i} w = omega (arith, level_start_fits s parity i w.half w.index, block_words_bits s (omega arith) (omega arith))
+
+-- what `using` lists name, since those take no name with a dash
+pub ruleset level_bounds = (level-within)
+
+pub ruleset window_cases = (window_sum-none, window_sum_some)
 
 -- whether level i is sound
 abbrev pub sound_at : Shape → ℕ → List ℕ → ℕ → Bool

@@ -4,7 +4,7 @@ use Rattle.std.proofs.Common.{arith}
 use Rattle.shape.specs.declared.Shape.{Shape}
 use Rattle.shape.specs.Layout.{book_words, block_words, block_start}
 use Rattle.laws.specs.Proper.{Proper}
-use Rattle.laws.specs.BookWords.{block_start_fits}
+use Rattle.laws.specs.BookWords.{block_start_fits, length-block_part}
 
 -- the grade is one of a book of this shape
 pub record InBook (s : Shape) (grade : ℕ) (ws : List ℕ) : Type 0 where
@@ -15,3 +15,6 @@ pub record InBook (s : Shape) (grade : ℕ) (ws : List ℕ) : Type 0 where
 -- the block of a grade lies within its book
 pub block_within : {s : Shape} {grade : ℕ} {ws : List ℕ} → InBook s grade ws → block_start s grade + block_words s ≤ length ws
 block_within {s} {grade} b = omega (arith, b.size, block_start_fits s grade b.inside)
+
+-- for a `using` list, which takes no name with a dash
+pub ruleset part_length = (length-block_part)

@@ -10,6 +10,7 @@ ghost use Rattle.book.specs.Part.{InBook};
 use shape::Shape;
 
 // The words of a grade's block, as a part of the book.
+#[tactic(auto, using(crate::specs::Part::block_within))]
 pub fn block_at(book: &[u32], s: Shape, grade: u32) -> &[u32]
     requires { InBook s grade book.now }
     ensures { result.now ≡ block_part s grade book.now }
@@ -20,6 +21,7 @@ pub fn block_at(book: &[u32], s: Shape, grade: u32) -> &[u32]
 }
 
 // Whether the block of a grade is sound.
+#[tactic(auto, using(crate::specs::Part::part_length))]
 pub fn block_sound(book: &[u32], s: Shape, grade: u32) -> bool
     requires { InBook s grade book.now }
     ensures { result ≡ sound_block s (block_part s grade book.now) }
@@ -28,6 +30,7 @@ pub fn block_sound(book: &[u32], s: Shape, grade: u32) -> bool
 }
 
 // Whether a grade's half for the interval of a stamp has no room for a volume.
+#[tactic(auto, using(crate::specs::Part::part_length))]
 pub fn block_full(book: &[u32], s: Shape, grade: u32, stamp: u32, volume: u32) -> bool
     requires { InBook s grade book.now }
     ensures { result ≡ ltb (2 ^ s.m) ((half_of (interval s stamp) (decode_block s (block_part s grade book.now))).total + volume) }
@@ -40,13 +43,5 @@ pub fn all_sound(book: &[u32], s: Shape) -> bool
     requires { (length book.now ≡ book_words s) × Proper s }
     ensures { result ≡ all_from (λ grade. sound_block s (block_part s grade book.now)) 0 s.g }
 {
-    let count = s.g as u32;
-    let mut grade: u32 = 0;
-    while grade < count {
-        if !block_sound(book, s, grade) {
-            return false;
-        }
-        grade += 1;
-    }
-    true
+    (0..u32::from(s.g)).all(|grade| block_sound(book, s, grade))
 }

@@ -12,25 +12,7 @@ use model::{Finer, Refusal};
 pub fn number(why: Refusal) -> u32
     ensures { result ≡ number_of why }
 {
-    match why {
-        Refusal::Shape => 1,
-        Refusal::Length => 2,
-        Refusal::Grade => 3,
-        Refusal::Volume => 4,
-        Refusal::Window => 5,
-        Refusal::Limit => 6,
-        Refusal::Head => 7,
-        Refusal::Ahead => 8,
-        Refusal::Late => 9,
-        Refusal::Back => 10,
-        Refusal::Block => 11,
-        Refusal::Full => 12,
-        Refusal::Trace => 13,
-        Refusal::Day => 14,
-        Refusal::Room => 15,
-        Refusal::Order => 16,
-        Refusal::Output => 17,
-    }
+    why as u32
 }
 
 // 0 where the call is accepted, whatever it says then.

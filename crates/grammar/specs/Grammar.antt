@@ -1,10 +1,9 @@
 -- What one line asks for: SPECIFICATION 11.3. A line, without its newline, is cut at every space: its first field is the call's letter, and
 -- each other field is one of its numbers. Assumes nothing.
-use Rattle.std.specs.Prelude.{Bool, true, false, cond, not, ◌&&◌, List, [], ◌∷◌, map, ℕ, ◌+◌, ◌*◌, ◌-◌, leb, eqb}
+use Rattle.std.specs.Prelude.{Option, Some, None, Bool, true, false, cond, not, ◌&&◌, List, [], ◌∷◌, map, ℕ, ◌+◌, ◌*◌, ◌-◌, leb, eqb}
 use Rattle.shape.specs.Limits.{Reply, accepted, between}
+use Rattle.model.specs.declared.Call.{Call}
 use Rattle.model.specs.declared.Call.TheVariants.{Make, Clock, Delivery, Query}
-use Rattle.grammar.specs.declared.Parsed.{Parsed}
-use Rattle.grammar.specs.declared.Parsed.TheVariants.{Read, Unread}
 
 abbrev pub first_field : List ℕ → List ℕ  -- the bytes before the first space
 first_field [] = []
@@ -63,10 +62,10 @@ ordered (letter ∷ b ∷ bs) fields = unread
 unfoldable pub grammar : List ℕ → Reply  -- SPECIFICATION 11.3: what a line, given as its bytes, asks for
 grammar line = ordered (first_field line) (later_fields line)
 
--- the values of each case of the reader's answer: the call's letter and its numbers, in the order of the line
-unfoldable pub reading_of : Parsed → Reply
-reading_of (Read (Make k n m g)) = accepted (109 ∷ k ∷ n ∷ m ∷ g ∷ [])
-reading_of (Read (Clock clock)) = accepted (99 ∷ clock ∷ [])
-reading_of (Read (Delivery grade stamp volume)) = accepted (100 ∷ grade ∷ stamp ∷ volume ∷ [])
-reading_of (Read (Query grade window)) = accepted (113 ∷ grade ∷ window ∷ [])
-reading_of Unread = unread
+-- the values of the reader's answer: of a call its letter and its numbers, in the order of the line; none for a line that is unread
+unfoldable pub reading_of : Option Call → Reply
+reading_of (Some (Make k n m g)) = accepted (109 ∷ k ∷ n ∷ m ∷ g ∷ [])
+reading_of (Some (Clock clock)) = accepted (99 ∷ clock ∷ [])
+reading_of (Some (Delivery grade stamp volume)) = accepted (100 ∷ grade ∷ stamp ∷ volume ∷ [])
+reading_of (Some (Query grade window)) = accepted (113 ∷ grade ∷ window ∷ [])
+reading_of None = unread

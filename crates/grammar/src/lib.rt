@@ -1,14 +1,5 @@
-// What a line of the bench program asks for, and the state of reading one.
+// The state of reading a line of the bench program (SPECIFICATION 11.3).
 #![tactic(auto)]
-
-use model::Call;
-
-// What a line asks for: SPECIFICATION 11.3.
-#[derive(Clone, Copy)]
-pub enum Parsed {
-    Read(Call),
-    Unread,
-}
 
 // The numbers before the current one.
 #[derive(Clone, Copy)]

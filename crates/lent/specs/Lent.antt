@@ -1,12 +1,10 @@
 -- How many words of its buffer the bench program lends to a call, and what a line does to the buffer: SPECIFICATION 11.2. Assumes nothing.
-use Rattle.std.specs.Prelude.{cond, List, ◌++◌, ℕ, min, eqb, length, take, drop}
+use Rattle.std.specs.Prelude.{Option, Some, None, cond, List, ◌++◌, ℕ, min, eqb, length, take, drop}
 use Rattle.shape.specs.Limits.{Reply, within, shaped}
 use Rattle.shape.specs.Layout.{book_words}
 use Rattle.model.specs.declared.Call.{Call}
 use Rattle.model.specs.declared.Call.TheVariants.{Make, Clock, Delivery, Query}
 use Rattle.model.specs.Calls.{Outcome, outcome_of, perform}
-use Rattle.grammar.specs.declared.Parsed.{Parsed}
-use Rattle.grammar.specs.declared.Parsed.TheVariants.{Read, Unread}
 use Rattle.text.specs.Text.{text_of, unread_text}
 
 -- SPECIFICATION 11.2: the length that a shape within its limits needs, but at most the whole buffer; to any other make all of it
@@ -40,6 +38,6 @@ after_call ws before call =
     record { words = done.left; lent = lent_after done.reply before lent; text = text_of done.reply }
 
 -- SPECIFICATION 11.2 to 11.4: a line that is unread changes nothing
-unfoldable pub after_line : List ℕ → ℕ → Parsed → After
-after_line ws before (Read call) = after_call ws before call
-after_line ws before Unread = record { words = ws; lent = before; text = unread_text }
+unfoldable pub after_line : List ℕ → ℕ → Option Call → After
+after_line ws before (Some call) = after_call ws before call
+after_line ws before None = record { words = ws; lent = before; text = unread_text }

@@ -1,42 +1,28 @@
 // What a line does to the bench program's buffer (SPECIFICATION 11.2): how many words its call is lent, the call on them, and the answer.
 #![tactic(auto)]
 
-ghost use Rattle.std.specs.Prelude.{◌≡◌, ◌≤◌, min, length};
+ghost use Rattle.std.specs.Prelude.{◌≡◌, ◌≤◌, length};
 ghost use Rattle.model.specs.Reply.{reply_of};
 ghost use Rattle.model.specs.Calls.{outcome_of};
 ghost use Rattle.lent.specs.Lent.{lent_to_make, lent_to, lent_after, perform_on, after_line};
 ghost use Rattle.lent.specs.Said.{after_of};
 
-use grammar::Parsed;
-use model::{Answer, Call};
-use shape::{Checked, Shape};
+use model::{Answer, Call, Refusal};
+use shape::Shape;
 
-// The answer to a line.
-#[derive(Clone, Copy)]
-pub enum Said {
-    Answer(Answer),
-    Unread,
-}
-
-// The answer to a line, and how many words are lent after it.
+// The answer to a line, none if it is unread, and how many words are lent after it.
 #[derive(Clone, Copy)]
 pub struct Answered {
-    pub said: Said,
+    pub said: Option<Result<Answer, Refusal>>,
     pub lent: usize,
-}
-
-fn least(a: usize, b: usize) -> usize
-    ensures { result ≡ min a b }
-{
-    if b < a { b } else { a }
 }
 
 fn lent_to_make(all: usize, k: u32, n: u32, m: u32, g: u32) -> usize
     ensures { result ≡ lent_to_make all k n m g }
 {
     match Shape::new(k, n, m, g) {
-        Checked::Within(shape) => least(shape.book_len(), all),
-        Checked::Outside => all,
+        Some(shape) => shape.book_len().min(all),
+        None => all,
     }
 }
 
@@ -46,21 +32,12 @@ fn lent_to(all: usize, lent: usize, call: Call) -> usize
 {
     match call {
         Call::Make { k, n, m, g } => lent_to_make(all, k, n, m, g),
-        Call::Clock { clock: _ } => lent,
-        Call::Delivery {
-            grade: _,
-            stamp: _,
-            volume: _,
-        } => lent,
-        Call::Query {
-            grade: _,
-            window: _,
-        } => lent,
+        Call::Clock { .. } | Call::Delivery { .. } | Call::Query { .. } => lent,
     }
 }
 
 // A call on the words that it is lent.
-fn perform_on(book: &mut [u32], lent: usize, call: Call) -> Answer
+fn perform_on(book: &mut [u32], lent: usize, call: Call) -> Result<Answer, Refusal>
     requires { lent ≤ length book.old }
     ensures { outcome_of (reply_of result) book.new ≡ perform_on lent book.old call }
 {
@@ -68,36 +45,35 @@ fn perform_on(book: &mut [u32], lent: usize, call: Call) -> Answer
 }
 
 // How many words are lent after a call that was lent `lent`. A refused call changes nothing.
-fn lent_after(answer: Answer, before: usize, lent: usize) -> usize
+#[tactic(auto, using(laws::specs::Refusals::number_of_pos), unfolding(model::specs::Reply::reply_by))]
+fn lent_after(answer: Result<Answer, Refusal>, before: usize, lent: usize) -> usize
     ensures { result ≡ lent_after (reply_of answer) before lent }
 {
     match answer {
-        Answer::Done => lent,
-        Answer::Splits(_) => lent,
-        Answer::Sum(_) => lent,
-        Answer::Refused(_) => before,
+        Ok(_) => lent,
+        Err(_) => before,
     }
 }
 
 // A whole line: performs its call on the words that it is lent.
-pub fn answer_line(book: &mut [u32], before: usize, parsed: Parsed) -> Answered
+pub fn answer_line(book: &mut [u32], before: usize, parsed: Option<Call>) -> Answered
     requires { before ≤ length book.old }
     ensures book_after { after_of result book.new ≡ after_line book.old before parsed }
     ensures lent_in_bounds { result.lent ≤ length book.old }
 {
     match parsed {
-        Parsed::Read(call) => {
+        Some(call) => {
             let all = book.len();
             let lent = lent_to(all, before, call);
             let answer = perform_on(book, lent, call);
             let after = lent_after(answer, before, lent);
             Answered {
-                said: Said::Answer(answer),
+                said: Some(answer),
                 lent: after,
             }
         }
-        Parsed::Unread => Answered {
-            said: Said::Unread,
+        None => Answered {
+            said: None,
             lent: before,
         },
     }

@@ -5,7 +5,8 @@ ghost use Rattle.std.specs.Prelude.{◌≡◌};
 ghost use Rattle.grammar.specs.Grammar.{grammar, reading_of};
 ghost use Rattle.lines.specs.Bytes.{started, stepped, finished};
 
-use grammar::{Parsed, State};
+use grammar::State;
+use model::Call;
 use reader::{advance, call};
 
 // A line of any length, as far as it has been read.
@@ -16,6 +17,7 @@ pub struct Line {
 
 impl Line {
     // The line before its first byte.
+    #[tactic(auto, unfolding(crate::specs::Bytes::started))]
     pub fn start() -> Self
         ensures { result ≡ started }
     {
@@ -25,39 +27,33 @@ impl Line {
     }
 
     // The line with one more byte.
+    #[tactic(auto, unfolding(crate::specs::Bytes::stepped))]
     pub fn step(self, byte: u8) -> Self
         ensures { result ≡ stepped self byte }
     {
-        let state = self.state;
         Line {
-            state: advance(state, byte),
+            state: advance(self.state, byte),
         }
     }
 
     // What the line asks for if it ends here.
-    pub fn finish(self) -> Parsed
+    #[tactic(auto, unfolding(crate::specs::Bytes::finished, grammar::specs::Grammar::reading_of))]
+    pub fn finish(self) -> Option<Call>
         ensures { reading_of result ≡ finished self }
     {
-        let state = self.state;
-        match state {
+        match self.state {
             State::Number(letter, kept, value) => call(letter, kept, value),
-            State::Start => Parsed::Unread,
-            State::Letter(_) => Parsed::Unread,
-            State::Space(_, _) => Parsed::Unread,
-            State::Broken => Parsed::Unread,
+            State::Start | State::Letter(_) | State::Space(_, _) | State::Broken => None,
         }
     }
 }
 
 // What a whole line asks for. It is given without its newline.
-pub fn parse(bytes: &[u8]) -> Parsed
+pub fn parse(bytes: &[u8]) -> Option<Call>
     ensures { reading_of result ≡ grammar bytes.now }
 {
-    let mut line = Line::start();
-    let mut i: usize = 0;
-    while i < bytes.len() {
-        line = line.step(bytes[i]);
-        i += 1;
-    }
-    line.finish()
+    bytes
+        .iter()
+        .fold(Line::start(), |line, byte| line.step(*byte))
+        .finish()
 }

@@ -1,5 +1,5 @@
-// A call with its numbers, which may be any; why a call, finding a day, a replay or a merge is refused (SPECIFICATION 6.2, in the order of the
-// numbers 1 to 17); the answer to an accepted call; the ground of a sum (SPECIFICATION 20); and a record of a trace (SPECIFICATION 16.2).
+// A call with its numbers, which may be any; why a call, finding a day, a replay or a merge is refused (SPECIFICATION 6.2, with its
+// number); the answer to an accepted call; the ground of a sum (SPECIFICATION 20); and a record of a trace (SPECIFICATION 16.2).
 #![tactic(auto)]
 
 #[derive(Clone, Copy)]
@@ -12,23 +12,23 @@ pub enum Call {
 
 #[derive(Clone, Copy)]
 pub enum Refusal {
-    Shape, // The shape is outside its limits.
-    Length, // The words are not as many as the shape needs.
-    Grade, // No such grade.
-    Volume, // The volume is outside its limits.
-    Window, // The window is longer than an interval.
-    Limit, // The new clock is above its limit.
-    Head, // The head is unsound.
-    Ahead, // The stamp is ahead of the clock.
-    Late, // The stamp is an interval or more behind the clock.
-    Back, // The new clock is below the clock.
-    Block, // A block is unsound.
-    Full, // The interval has no room for the volume.
-    Trace, // The trace is unsound: its layout, or a record of any of its days.
-    Day, // The trace has no such day.
-    Room, // The answers need more words.
-    Order, // A day to merge does not open with a clock, or its clocks fall or pass their limit.
-    Output, // The output is not as long as the two days together.
+    Shape = 1, // The shape is outside its limits.
+    Length = 2, // The words are not as many as the shape needs.
+    Grade = 3, // No such grade.
+    Volume = 4, // The volume is outside its limits.
+    Window = 5, // The window is longer than an interval.
+    Limit = 6, // The new clock is above its limit.
+    Head = 7, // The head is unsound.
+    Ahead = 8, // The stamp is ahead of the clock.
+    Late = 9, // The stamp is an interval or more behind the clock.
+    Back = 10, // The new clock is below the clock.
+    Block = 11, // A block is unsound.
+    Full = 12, // The interval has no room for the volume.
+    Trace = 13, // The trace is unsound: its layout, or a record of any of its days.
+    Day = 14, // The trace has no such day.
+    Room = 15, // The answers need more words.
+    Order = 16, // A day to merge does not open with a clock, or its clocks fall or pass their limit.
+    Output = 17, // The output is not as long as the two days together.
 }
 
 // What an accepted call answers.

@@ -1,13 +1,13 @@
 // The exact pass over the buckets of a level: it decides whether they are sound, and adds their weights.
 #![tactic(auto)]
 
-ghost use Rattle.std.specs.Prelude.{◌≡◌, ◌+◌, ◌*◌, ◌≤◌, length, slice_index};
-ghost use Rattle.model.specs.Words.{slots};
-ghost use Rattle.words.specs.Slot.{content};
+ghost use Rattle.std.specs.Prelude.{◌≡◌, ◌+◌, ◌≤◌, length, map};
+ghost use Rattle.words.specs.Slot.{content, front};
 ghost use Rattle.pass_laws.specs.Pass.{unseen, below, spread, see_single, see_bucket, see_one, least_of, seen_level, weight_seen, sound_seen, Judged};
 
 use pass_laws::{Seen, Verdict};
-use words::{Slot, both, implied, long, power, slot_from};
+use shape::SLOT_LEN;
+use words::{Slot, both, implied, power};
 
 // Before the first bucket.
 fn unseen(first: u32) -> Seen
@@ -92,18 +92,14 @@ pub fn least_of(count: usize, i: u8) -> u32
 }
 
 // One pass over the buckets of level i.
-fn seen_level(level: &[u32], count: usize, i: u8) -> Seen
-    requires { (2 + 3 * count ≤ length level.now) × (count ≤ 1024) × (i ≤ 31) }
-    ensures { result ≡ seen_level i (slice_index level.now 1) (slots level.now 0 count) }
+fn seen_level(slots: &[[u32; SLOT_LEN]], first: u32, i: u8) -> Seen
+    requires { (length slots.now ≤ 1024) × (i ≤ 31) }
+    ensures { result ≡ seen_level i first (map front slots.now) }
 {
-    let low = least_of(count, i);
-    let mut t = unseen(level[1]);
-    let mut rest = &level[2..];
-    let mut at: usize = 0;
-    while at < count {
-        t = see_one(t, slot_from(rest, 0), i, low);
-        rest = &rest[3..];
-        at += 1;
+    let low = least_of(slots.len(), i);
+    let mut t = unseen(first);
+    for words in slots {
+        t = see_one(t, Slot::from(words), i, low);
     }
     t
 }
@@ -112,8 +108,8 @@ fn seen_level(level: &[u32], count: usize, i: u8) -> Seen
 fn weight_seen(t: Seen) -> u64
     ensures { result ≡ weight_seen t }
 {
-    let high = 65536 * long(t.high);
-    high + (long(t.low) + (4294967296 - high % 4294967296)) % 4294967296
+    let high = 65536 * u64::from(t.high);
+    high + (u64::from(t.low) + (4294967296 - high % 4294967296)) % 4294967296
 }
 
 // Whether the buckets of level i are sound, by what a pass collected.
@@ -129,14 +125,13 @@ fn sound_seen(t: Seen, first: u32, k: u8, i: u8) -> bool
 }
 
 // Exact verdict and weight.
-pub fn judge_seen(level: &[u32], count: usize, k: u8, i: u8) -> Verdict
-    requires { (2 + 3 * count ≤ length level.now) × (count ≤ 1024) × (k ≤ 20) × (i ≤ 24) }
-    ensures { Judged k i (slice_index level.now 1) (slots level.now 0 count) result }
+pub fn judge_seen(slots: &[[u32; SLOT_LEN]], first: u32, k: u8, i: u8) -> Verdict
+    requires { (length slots.now ≤ 1024) × (k ≤ 20) × (i ≤ 24) }
+    ensures { Judged k i first (map front slots.now) result }
 {
-    let t = seen_level(level, count, i);
-    let sound = sound_seen(t, level[1], k, i);
+    let t = seen_level(slots, first, i);
     Verdict {
         weight: weight_seen(t),
-        sound: sound,
+        sound: sound_seen(t, first, k, i),
     }
 }

@@ -1,27 +1,25 @@
 // The check of a level's buckets: the quick pass first, and the exact pass if its tests fail.
 #![tactic(auto)]
 
-ghost use Rattle.std.specs.Prelude.{◌≡◌, ◌+◌, ◌*◌, ◌%◌, ◌^◌, ◌≤◌, ◌&&◌, length, nat_le, slice_index};
+ghost use Rattle.std.specs.Prelude.{◌≡◌, ◌+◌, ◌*◌, ◌%◌, ◌^◌, ◌≤◌, ◌&&◌, length, map, nat_le, slice_index};
 ghost use Rattle.model.specs.Words.{slots};
 ghost use Rattle.model.specs.Sound.{weight_of, sound_buckets};
+ghost use Rattle.words.specs.Slot.{front};
 ghost use Rattle.quick_laws.specs.Quick.{most_of, is_enough, is_tried, weighs};
 
 use pass::{judge_seen, least_of};
 use quick_laws::Quick;
+use shape::SLOT_LEN;
 use turns::quick_buckets;
-use words::{both, implied, long, power, slot_at};
+use words::{Slot, both, implied, power, slots};
 
 // The sum of the weights modulo 2 ^ 32.
-fn weight_of(level: &[u32], count: usize) -> u32
-    requires { (2 + 3 * count ≤ length level.now) × (count ≤ 1024) }
-    ensures { result ≡ weight_of (slots level.now 0 count) % 2 ^ 32 }
+fn weight_of(slots: &[[u32; SLOT_LEN]]) -> u32
+    ensures { result ≡ weight_of (map front slots.now) % 2 ^ 32 }
 {
     let mut sum: u32 = 0;
-    let mut at: usize = 0;
-    while at < count {
-        let b = slot_at(level, at);
-        sum = std::num::wrapping_add_u32(sum, b.weight);
-        at += 1;
+    for words in slots {
+        sum = std::num::wrapping_add_u32(sum, Slot::from(words).weight);
     }
     sum
 }
@@ -69,7 +67,7 @@ fn is_bounded(least: u32, extra: u32, count: usize, total: u64) -> bool
     requires { count ≤ 1024 }
     ensures { result ≡ nat_le ((least + extra) * count) total }
 {
-    let top = long(least) + long(extra);
+    let top = u64::from(least) + u64::from(extra);
     top * count as u64 <= total
 }
 
@@ -99,16 +97,16 @@ pub fn sound_buckets(level: &[u32], count: usize, k: u8, i: u8, total: u64) -> b
                 if is_bounded(low, t.extra, count, total) {
                     return true;
                 }
-                return weighs(long(weight_of(level, count)), first, total);
+                return weighs(u64::from(weight_of(slots(level, count))), first, total);
             }
         } else {
             let t = quick_buckets(level, count, low, high);
             if is_enough(t, first, k) {
-                return weighs(long(weight_of(level, count)), first, total);
+                return weighs(u64::from(weight_of(slots(level, count))), first, total);
             }
         }
     }
-    let v = judge_seen(level, count, k, i);
+    let v = judge_seen(slots(level, count), first, k, i);
     let right = weighs(v.weight, first, total);
     both(v.sound, right)
 }

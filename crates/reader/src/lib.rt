@@ -2,25 +2,13 @@
 #![tactic(auto)]
 
 ghost use Rattle.std.specs.Prelude.{◌≡◌, ◌∷◌, [], ◌++◌};
-ghost use Rattle.grammar.specs.Grammar.{is_digit, called, reading_of};
+ghost use Rattle.grammar.specs.Grammar.{called, reading_of};
 ghost use Rattle.grammar.specs.Machine.{numbers_of, spaced, grown, moved};
 
-use grammar::{Numbers, Parsed, State};
+use grammar::{Numbers, State};
 use model::Call;
 
 const SPACE: u8 = b' ';
-
-// The largest number.
-const LARGEST: u64 = 4294967295;
-
-fn is_digit(byte: u8) -> bool
-    ensures { result ≡ is_digit byte }
-{
-    if byte < 48 {
-        return false;
-    }
-    byte <= 57
-}
 
 // A space after a number. No call has more than four numbers.
 fn space(letter: u8, kept: Numbers, value: u32) -> State
@@ -38,17 +26,12 @@ fn space(letter: u8, kept: Numbers, value: u32) -> State
 fn grow(letter: u8, kept: Numbers, value: u32, byte: u8) -> State
     ensures { result ≡ grown letter kept value byte }
 {
-    if !is_digit(byte) {
+    if !byte.is_ascii_digit() || value == 0 {
         return State::Broken;
     }
-    if value == 0 {
-        return State::Broken;
-    }
-    let next = 10 * (value as u64) + (byte as u64 - 48);
-    if next <= LARGEST {
-        State::Number(letter, kept, next as u32)
-    } else {
-        State::Broken
+    match u32::try_from(10 * u64::from(value) + u64::from(byte - b'0')) {
+        Ok(next) => State::Number(letter, kept, next),
+        Err(_) => State::Broken,
     }
 }
 
@@ -71,8 +54,8 @@ pub fn advance(state: State, byte: u8) -> State
             }
         }
         State::Space(letter, kept) => {
-            if is_digit(byte) {
-                State::Number(letter, kept, byte as u32 - 48)
+            if byte.is_ascii_digit() {
+                State::Number(letter, kept, u32::from(byte - b'0'))
             } else {
                 State::Broken
             }
@@ -89,37 +72,22 @@ pub fn advance(state: State, byte: u8) -> State
 }
 
 // The call that a letter and its numbers make.
-pub fn call(letter: u8, kept: Numbers, last: u32) -> Parsed
+#[tactic(auto, unfolding(grammar::specs::Grammar::reading_of))]
+pub fn call(letter: u8, kept: Numbers, last: u32) -> Option<Call>
     ensures { reading_of result ≡ called letter (numbers_of kept ++ last ∷ []) }
 {
-    match kept {
-        Numbers::None => {
-            if letter == b'c' {
-                return Parsed::Read(Call::Clock { clock: last });
-            }
-        }
-        Numbers::One(grade) => {
-            if letter == b'q' {
-                return Parsed::Read(Call::Query {
-                    grade,
-                    window: last,
-                });
-            }
-        }
-        Numbers::Two(grade, stamp) => {
-            if letter == b'd' {
-                return Parsed::Read(Call::Delivery {
-                    grade,
-                    stamp,
-                    volume: last,
-                });
-            }
-        }
-        Numbers::Three(k, n, m) => {
-            if letter == b'm' {
-                return Parsed::Read(Call::Make { k, n, m, g: last });
-            }
-        }
+    match (letter, kept) {
+        (b'c', Numbers::None) => Some(Call::Clock { clock: last }),
+        (b'q', Numbers::One(grade)) => Some(Call::Query {
+            grade,
+            window: last,
+        }),
+        (b'd', Numbers::Two(grade, stamp)) => Some(Call::Delivery {
+            grade,
+            stamp,
+            volume: last,
+        }),
+        (b'm', Numbers::Three(k, n, m)) => Some(Call::Make { k, n, m, g: last }),
+        _ => None,
     }
-    Parsed::Unread
 }

@@ -8,13 +8,13 @@ ghost use Rattle.model.specs.Block.{sum_from};
 ghost use Rattle.laws.specs.SlotOf.{slot_of, EndsRise};
 ghost use Rattle.scan.specs.Search.{is_past, Spans};
 
-use words::{Slot, long, slot_at, wide};
+use words::{Slot, slot_at, slots};
 
 // Where a bucket ends.
 fn end(b: Slot) -> u64
     ensures { result ≡ b.offset + b.width }
 {
-    long(b.offset) + long(b.width)
+    u64::from(b.offset) + u64::from(b.width)
 }
 
 // Whether there is a slot `step` below `high`, and its bucket ends after offset x.
@@ -25,7 +25,7 @@ fn is_past(level: &[u32], high: usize, step: usize, x: u32) -> bool
     if high < step {
         return false;
     }
-    long(x) < end(slot_at(level, high - step))
+    u64::from(x) < end(slot_at(level, high - step))
 }
 
 // The buckets of the slots before `low` end at or before an offset, those of the slots from `high` on end after it.
@@ -40,7 +40,7 @@ fn gallop(level: &[u32], x: u32) -> Span
     requires { EndsRise 0 (decode_level level.now).buckets × (slot_start (get_or level.now 0 0) ≤ length level.now) }
     ensures { Spans x level.now result }
 {
-    let mut high = wide(level[0]);
+    let mut high = level[0] as usize;
     let mut step: usize = 1;
     while is_past(level, high, step, x) {
         high -= step;
@@ -65,7 +65,7 @@ pub fn find(level: &[u32], x: u32) -> usize
     let mut high = span.high;
     while low < high {
         let mid = low + (high - low) / 2;
-        if long(x) < end(slot_at(level, mid)) {
+        if u64::from(x) < end(slot_at(level, mid)) {
             high = mid;
         } else {
             low = mid + 1;
@@ -78,7 +78,11 @@ pub fn find(level: &[u32], x: u32) -> usize
 fn counted(b: Slot, a: u32) -> u64
     ensures { (result ≡ cond (leb a b.offset) b.weight 0) × (result < 2 ^ 32) }
 {
-    if a <= b.offset { b.weight as u64 } else { 0 }
+    if a <= b.offset {
+        u64::from(b.weight)
+    } else {
+        0
+    }
 }
 
 // The sum of the weights of the buckets that start at a or later.
@@ -86,12 +90,9 @@ pub fn sum_from(level: &[u32], a: u32) -> u64
     requires { (slot_start (get_or level.now 0 0) ≤ length level.now) × (get_or level.now 0 0 ≤ 1024) }
     ensures { result ≡ sum_from a (decode_level level.now).buckets }
 {
-    let count = wide(level[0]);
     let mut sum: u64 = 0;
-    let mut j: usize = 0;
-    while j < count {
-        sum += counted(slot_at(level, j), a);
-        j += 1;
+    for words in slots(level, level[0] as usize) {
+        sum += counted(Slot::from(words), a);
     }
     sum
 }

@@ -1,21 +1,20 @@
 -- The reader's answer and its values determine each other. Assumes nothing.
-use Rattle.std.specs.Prelude.{Bool, true, false, cond, List, [], ◌∷◌, map, ◌≡◌, refl, ℕ}
+use Rattle.std.specs.Prelude.{Option, Some, None, Bool, true, false, cond, List, [], ◌∷◌, map, ◌≡◌, refl, ℕ}
 use Rattle.std.proofs.Common.{sym, subst}
 use Rattle.shape.specs.Limits.{Reply, accepted}
+use Rattle.model.specs.declared.Call.{Call}
 use Rattle.model.specs.declared.Call.TheVariants.{Make, Clock, Delivery, Query}
 use Rattle.laws.specs.Cond.{by_eq}
-use Rattle.grammar.specs.declared.Parsed.{Parsed}
-use Rattle.grammar.specs.declared.Parsed.TheVariants.{Read, Unread}
 use Rattle.grammar.specs.Grammar.{first_field, later_fields, every, is_number, value_of, unread, asks, called, ordered, grammar, reading_of}
 use Rattle.session.specs.Protocol.{parsed_of}
 
-pub parsed_reading : (p : Parsed) → parsed_of (reading_of p) ≡ p
+pub parsed_reading : (p : Option Call) → parsed_of (reading_of p) ≡ p
 unfolding parsed_of reading_of
-parsed_reading (Read (Make k n m g)) = refl
-parsed_reading (Read (Clock clock)) = refl
-parsed_reading (Read (Delivery grade stamp volume)) = refl
-parsed_reading (Read (Query grade window)) = refl
-parsed_reading Unread = refl
+parsed_reading (Some (Make k n m g)) = refl
+parsed_reading (Some (Clock clock)) = refl
+parsed_reading (Some (Delivery grade stamp volume)) = refl
+parsed_reading (Some (Query grade window)) = refl
+parsed_reading None = refl
 
 -- a reply that is the same after it was turned into a call and back
 abbrev Reread : Reply → Type 0

@@ -1,10 +1,8 @@
 -- The whole input and the whole output of the bench program: SPECIFICATION 11. Assumes nothing.
-use Rattle.std.specs.Prelude.{cond, List, [], ◌∷◌, ◌++◌, ℕ, eqb, replicate}
+use Rattle.std.specs.Prelude.{Option, Some, None, cond, List, [], ◌∷◌, ◌++◌, ℕ, eqb, replicate}
 use Rattle.shape.specs.Limits.{Reply}
 use Rattle.model.specs.declared.Call.{Call}
 use Rattle.model.specs.declared.Call.TheVariants.{Make, Clock, Delivery, Query}
-use Rattle.grammar.specs.declared.Parsed.{Parsed}
-use Rattle.grammar.specs.declared.Parsed.TheVariants.{Read, Unread}
 use Rattle.grammar.specs.Grammar.{grammar}
 use Rattle.lent.specs.Lent.{after_line}
 
@@ -28,20 +26,20 @@ abbrev pub lines_of : List ℕ → List (List ℕ)
 lines_of [] = []
 lines_of (byte ∷ bytes) = cond (eqb byte newline) ([] ∷ lines_of bytes) (with_byte byte (lines_of bytes))
 
-abbrev pub asked : ℕ → ℕ → Call → Parsed  -- the letter that is wanted, and its call
-asked wanted letter call = cond (eqb letter wanted) (Read call) Unread
+abbrev pub asked : ℕ → ℕ → Call → Option Call  -- the letter that is wanted, and its call
+asked wanted letter call = cond (eqb letter wanted) (Some call) None
 
 -- the call of a letter and its numbers, as the grammar gives them
-abbrev pub parsed_values : List ℕ → Parsed
-parsed_values [] = Unread
-parsed_values (letter ∷ []) = Unread
+abbrev pub parsed_values : List ℕ → Option Call
+parsed_values [] = None
+parsed_values (letter ∷ []) = None
 parsed_values (letter ∷ clock ∷ []) = asked 99 letter (Clock clock)
 parsed_values (letter ∷ grade ∷ window ∷ []) = asked 113 letter (Query grade window)
 parsed_values (letter ∷ grade ∷ stamp ∷ volume ∷ []) = asked 100 letter (Delivery grade stamp volume)
 parsed_values (letter ∷ k ∷ n ∷ m ∷ g ∷ []) = asked 109 letter (Make k n m g)
-parsed_values (letter ∷ a ∷ b ∷ c ∷ d ∷ e ∷ more) = Unread
+parsed_values (letter ∷ a ∷ b ∷ c ∷ d ∷ e ∷ more) = None
 
-unfoldable pub parsed_of : Reply → Parsed  -- what a line asks for, by the grammar's reply
+unfoldable pub parsed_of : Reply → Option Call  -- what a line asks for, by the grammar's reply
 parsed_of reply = parsed_values reply.values
 
 -- SPECIFICATION 11.1: what is printed for lines, one after another; each finds the buffer and what is lent as the one before left them

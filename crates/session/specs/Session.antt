@@ -1,5 +1,5 @@
 -- The bench program, byte by byte. Assumes nothing.
-use Rattle.std.specs.Prelude.{Bool, true, false, cond, ℕ, eqb, take}
+use Rattle.std.specs.Prelude.{unwrap_or, is_some, Bool, true, false, cond, ℕ, eqb, take}
 use mathlib.Core.List.{List, [], ◌∷◌, ◌++◌, foldl}
 use Rattle.lines.specs.declared.Line.{Line}
 use Rattle.lines.specs.Bytes.{started, stepped, finished}
@@ -39,6 +39,6 @@ abbrev pub in_parts : Bench → List (List ℕ) → List ℕ
 in_parts b [] = (end_input b).out
 in_parts b (part ∷ parts) = let after = foldl feed_byte b part in after.out ++ in_parts (written_out after) parts
 
--- the code's state, with the buffer and with the bytes of the output, of which the first `used` wait
+-- the code's state, with the buffer and with the bytes of the output, of which the first `used` wait; no line stands for one without a byte
 abbrev pub bench_of : Session → List ℕ → List ℕ → Bench
-bench_of s words out = record { line = s.line; begun = s.begun; words = words; lent = s.lent; out = take s.used out }
+bench_of s words out = record { line = unwrap_or s.line started; begun = is_some s.line; words = words; lent = s.lent; out = take s.used out }

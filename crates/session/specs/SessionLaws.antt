@@ -1,17 +1,17 @@
 -- What the parts of the code give is what the definitions say. Assumes nothing.
-use Rattle.std.specs.Prelude.{true, false, List, ◌++◌, ◌≡◌, ℕ, ◌+◌, ◌-◌, ◌≤◌, length, take, drop}
+use Rattle.std.specs.Prelude.{Option, Result, Some, None, unwrap_or, true, false, List, ◌++◌, ◌≡◌, ℕ, ◌+◌, ◌-◌, ◌≤◌, length, take, drop}
 use Rattle.std.proofs.Common.{append_assoc, sym, ap, ◌∙◌, arith, le-ltb, eq-eqb, ne_eqb, length-drop, length-take-le}
 use Rattle.std.proofs.lemmas.List.{length-replicate}
 use Rattle.std.proofs.Math.Seq.{take-append-add, take-append_seam}
-use Rattle.grammar.specs.declared.Parsed.{Parsed}
+use Rattle.model.specs.declared.Call.{Call}
+use Rattle.model.specs.declared.Answer.{Answer}
+use Rattle.model.specs.declared.Refusal.{Refusal}
 use Rattle.grammar.specs.Grammar.{reading_of}
 use Rattle.lines.specs.declared.Line.{Line}
 use Rattle.lines.specs.Bytes.{started, stepped, finished}
 use Rattle.model.specs.Reply.{reply_of}
 use Rattle.text.specs.Text.{written, stored}
 use Rattle.text.specs.TextLaws.{text_short, unread_short}
-use Rattle.lent.specs.declared.Said.{Said}
-use Rattle.lent.specs.declared.Said.TheVariants as said
 use Rattle.lent.specs.declared.Answered.{Answered}
 use Rattle.lent.specs.Lent.{After, after_line}
 use Rattle.lent.specs.Said.{said_text, after_of}
@@ -25,15 +25,15 @@ unfolding zero_buffer
 zero-length = length-replicate {A = ℕ} buffer_words 0
 
 -- before the first byte
-pub start-initial : (line : Line) (words out : List ℕ) → line ≡ started → words ≡ zero_buffer
-    → bench_of (record { line = line; begun = false; lent = length words; used = 0 }) words out ≡ initial
+pub start-initial : (words out : List ℕ) → words ≡ zero_buffer
+    → bench_of (record { line = None; lent = length words; used = 0 }) words out ≡ initial
 unfolding initial
-start-initial line words out l w = rw (l, w, zero-length)
+start-initial words out w = rw (w, zero-length)
 
-pub said_short : (s : Said) → length (said_text s) ≤ 32
+pub said_short : (s : Option (Result Answer Refusal)) → length (said_text s) ≤ 32
 unfolding said_text
-said_short (said.Answer a) = text_short (reply_of a)
-said_short said.Unread = unread_short
+said_short (Some a) = text_short (reply_of a)
+said_short None = unread_short
 
 -- the output after the bytes that wait has room for a text
 pub room_behind : (out : List ℕ) (used : ℕ) → used + 32 ≤ length out → 32 ≤ length (take (length out - used) (drop used out))
@@ -55,17 +55,17 @@ text_behind text out room last rest used added h long a l =
     ∙ ap (λ (l : List ℕ). take used out ++ l) (take-append_seam text more))
 
 -- a whole line
-pub line_ended : (s : Session) (ws left out exit : List ℕ) (p : Parsed) (a : Answered) (used : ℕ)
-    → reading_of p ≡ finished s.line → after_of a left ≡ after_line ws s.lent p → take used exit ≡ take s.used out ++ said_text a.said
-    → bench_of (record { line = started; begun = false; lent = a.lent; used = used }) left exit ≡ end_line (bench_of s ws out)
+pub line_ended : (s : Session) (ws left out exit : List ℕ) (p : Option Call) (a : Answered) (used : ℕ)
+    → reading_of p ≡ finished (unwrap_or s.line started) → after_of a left ≡ after_line ws s.lent p → take used exit ≡ take s.used out ++ said_text a.said
+    → bench_of (record { line = None; lent = a.lent; used = used }) left exit ≡ end_line (bench_of s ws out)
 unfolding end_line
 line_ended s ws left out exit p a used r l t =
     rw (t, ← r, parsed_reading p)
     (ap (λ (x : After). record { line = started; begun = false; words = x.words; lent = x.lent; out = take s.used out ++ x.text }) l)
 
 -- a byte of the line
-pub byte_added : (s : Session) (line : Line) (words out : List ℕ) (byte : ℕ) → line ≡ stepped s.line byte
-    → bench_of (record { line = line; begun = true; lent = s.lent; used = s.used }) words out ≡ add_byte (bench_of s words out) byte
+pub byte_added : (s : Session) (line : Line) (words out : List ℕ) (byte : ℕ) → line ≡ stepped (unwrap_or s.line started) byte
+    → bench_of (record { line = Some line; lent = s.lent; used = s.used }) words out ≡ add_byte (bench_of s words out) byte
 unfolding add_byte
 byte_added s line words out byte l = rw l
 

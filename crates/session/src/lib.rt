@@ -8,15 +8,14 @@ ghost use Rattle.lent.specs.Said.{said_text};
 ghost use Rattle.session.specs.Protocol.{zero_buffer};
 ghost use Rattle.session.specs.Session.{initial, end_line, feed_byte, end_input, written_out, bench_of};
 
-use lent::Said;
 use lines::Line;
+use model::{Answer, Refusal};
 
 // The state between two bytes of the input. The buffer of words and the bytes of the output are lent beside it.
 #[derive(Clone, Copy)]
 pub struct Session {
-    // The line as far as it has been read, and whether it has a byte.
-    line: Line,
-    begun: bool,
+    // The line as far as it has been read, none if it has no byte yet.
+    line: Option<Line>,
     // How many words a call is lent.
     lent: usize,
     // How many bytes at the front of the output wait to be written. The bytes after them are left open.
@@ -24,18 +23,18 @@ pub struct Session {
 }
 
 // Writes the line of an answer to the front of the buffer. Returns its length.
-fn spell(said: Said, out: &mut [u8]) -> usize
+fn spell(said: Option<Result<Answer, Refusal>>, out: &mut [u8]) -> usize
     ensures value { result ≡ written (said_text said) out.old }
     ensures out_after { out.new ≡ stored (said_text said) out.old }
 {
     match said {
-        Said::Answer(answer) => text::answer(answer, out),
-        Said::Unread => text::unread(out),
+        Some(answer) => text::answer(answer, out),
+        None => text::unread(out),
     }
 }
 
 // Writes the line of an answer after the bytes that wait. Returns how many wait then.
-fn append(out: &mut [u8], used: usize, said: Said) -> usize
+fn append(out: &mut [u8], used: usize, said: Option<Result<Answer, Refusal>>) -> usize
     requires { used + 32 ≤ length out.old }
     ensures out_after { take result out.new ≡ take used out.old ++ said_text said }
     ensures bounds { result ≤ used + 32 }
@@ -50,20 +49,17 @@ fn end_line(book: &mut [u32], out: &mut [u8], s: Session) -> Session
     ensures bench { bench_of result book.new out.new ≡ end_line (bench_of s book.old out.old) }
     ensures bounds { (result.lent ≤ length book.old) × (result.used ≤ s.used + 32) }
 {
-    let line = s.line;
-    let parsed = line.finish();
-    let answered = lent::answer_line(book, s.lent, parsed);
-    let said = answered.said;
-    let used = append(out, s.used, said);
+    let line = s.line.unwrap_or(Line::start());
+    let answered = lent::answer_line(book, s.lent, line.finish());
     Session {
-        line: Line::start(),
-        begun: false,
+        line: None,
         lent: answered.lent,
-        used,
+        used: append(out, s.used, answered.said),
     }
 }
 
 // One byte of the input.
+#[tactic(auto, using(crate::specs::SessionLaws::byte_added, crate::specs::SessionLaws::at_newline, crate::specs::SessionLaws::at_other))]
 fn feed_byte(book: &mut [u32], out: &mut [u8], s: Session, byte: u8) -> Session
     requires { (s.lent ≤ length book.old) × (s.used + 32 ≤ length out.old) }
     ensures bench { bench_of result book.new out.new ≡ feed_byte (bench_of s book.old out.old) byte }
@@ -72,12 +68,10 @@ fn feed_byte(book: &mut [u32], out: &mut [u8], s: Session, byte: u8) -> Session
     if byte == b'\n' {
         return end_line(book, out, s);
     }
-    let line = s.line;
+    let line = s.line.unwrap_or(Line::start());
     Session {
-        line: line.step(byte),
-        begun: true,
-        lent: s.lent,
-        used: s.used,
+        line: Some(line.step(byte)),
+        ..s
     }
 }
 
@@ -88,24 +82,24 @@ pub fn feed(book: &mut [u32], out: &mut [u8], s: Session, bytes: &[u8]) -> Sessi
     ensures bounds { (result.lent ≤ length book.old) × (result.used ≤ s.used + 32 * length bytes.now) }
 {
     let mut session = s;
-    let mut i: usize = 0;
-    while i < bytes.len() {
-        session = feed_byte(book, out, session, bytes[i]);
-        i += 1;
+    for byte in bytes {
+        session = feed_byte(book, out, session, *byte);
     }
     session
 }
 
 // The end of the input. The last line may lack its newline.
+#[tactic(auto, using(crate::specs::SessionLaws::at_end, crate::specs::SessionLaws::at_end_none))]
 pub fn end_input(book: &mut [u32], out: &mut [u8], s: Session) -> Session
     requires { (s.lent ≤ length book.old) × (s.used + 32 ≤ length out.old) }
     ensures bench { bench_of result book.new out.new ≡ end_input (bench_of s book.old out.old) }
     ensures bounds { result.used ≤ s.used + 32 }
 {
-    if s.begun {
-        return end_line(book, out, s);
+    if s.line.is_some() {
+        end_line(book, out, s)
+    } else {
+        s
     }
-    s
 }
 
 // The state before the first byte. The buffer is zero, as at the start.
@@ -115,23 +109,17 @@ pub fn begin(book: &[u32]) -> Session
     ensures bounds { (result.lent ≤ length book.now) × (result.used ≡ 0) }
 {
     Session {
-        line: Line::start(),
-        begun: false,
+        line: None,
         lent: book.len(),
         used: 0,
     }
 }
 
 // The state after the waiting bytes were written out.
+#[tactic(auto, unfolding(crate::specs::Session::written_out))]
 pub fn written_out(s: Session) -> Session
     ensures bench { (words out : List ℕ) → bench_of result words out ≡ written_out (bench_of s words out) }
     ensures bounds { (result.lent ≡ s.lent) × (result.used ≡ 0) }
 {
-    let line = s.line;
-    Session {
-        line,
-        begun: s.begun,
-        lent: s.lent,
-        used: 0,
-    }
+    Session { used: 0, ..s }
 }

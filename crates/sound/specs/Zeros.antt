@@ -1,6 +1,6 @@
 -- The test that all words are zero, by joining the bits of four parts and of the words after them. Assumes nothing.
-use Rattle.std.specs.Prelude.{Bool, true, false, ◌&&◌, List, [], ◌∷◌, ◌≡◌, refl, ℕ, zero, suc, ◌+◌, ◌<◌, eqb, length, get_or, take, drop}
-use Rattle.std.proofs.Math.Bool.{and_assoc}
+use Rattle.std.specs.Prelude.{Bool, true, false, ◌&&◌, List, [], ◌∷◌, ◌≡◌, refl, ℕ, zero, suc, ◌+◌, ◌<◌, eqb, length, get_or, take, drop, fold}
+use Rattle.std.proofs.Math.Bool.{and_assoc, and-true}
 use Rattle.std.proofs.Common.{sym, ap, ◌∙◌, add-one, drop-cons, drop-drop}
 use Rattle.std.specs.Int.Bits.{bit_or}
 use Rattle.model.specs.Sound.{zeros}
@@ -57,9 +57,11 @@ zeros-four a b c d all j ha hb hc hd =
     ∙ ap (λ (t : Bool). t && here) (zeros_pair a b all j ha hb)
     ∙ and_assoc (eqb all 0) (zeros (drop j a) && zeros (drop j b)) here
 
--- joining one more word
-pub zeros-one : (ws : List ℕ) (all j : ℕ) → j < length ws → (eqb (bit_or all (get_or ws j 0)) 0 && zeros (drop (j + 1) ws)) ≡ (eqb all 0 && zeros (drop j ws))
-zeros-one ws all j h = rw (or_tested all (get_or ws j 0), zeros_step ws j h) (and_assoc (eqb all 0) (eqb (get_or ws j 0) 0) (zeros (drop (j + 1) ws)))
+-- joining one word after another
+pub zeros-joined : (all : ℕ) (ws : List ℕ) → eqb (fold bit_or all ws) 0 ≡ (eqb all 0 && zeros ws)
+zeros-joined all [] = sym (and-true (eqb all 0))
+zeros-joined all (w ∷ ws) =
+    zeros-joined (bit_or all w) ws ∙ ap (λ (t : Bool). t && zeros ws) (or_tested all w) ∙ and_assoc (eqb all 0) (eqb w 0) (zeros ws)
 
 -- four parts of n words from `from` on; the fourth has all words to the end
 module _ (ws : List ℕ) (from n all rest : ℕ) where

@@ -1,13 +1,14 @@
 // Whether the words of one level are sound: SPECIFICATION 7.3.
 #![tactic(auto)]
 
-ghost use Rattle.std.specs.Prelude.{◌≡◌, ◌&&◌, ◌≤◌, eqb, length, drop};
+ghost use Rattle.std.specs.Prelude.{◌≡◌, ◌&&◌, ◌≤◌, eqb, length, drop, fold};
+ghost use Rattle.std.specs.Int.Bits.{bit_or};
 ghost use Rattle.shape.specs.Layout.{level_words};
 ghost use Rattle.model.specs.Sound.{zeros, sound_level};
 
 use quick::sound_buckets;
 use shape::{LEVEL_HEAD_LEN, SLOT_LEN, Shape};
-use words::{both, implied, wide};
+use words::{both, implied};
 
 // The joined bits of the words of a, b and c and of as many words of d. With four streams at once the compiler takes eight vectors a turn.
 fn joined(a: &[u32], b: &[u32], c: &[u32], d: &[u32]) -> u32
@@ -16,25 +17,18 @@ fn joined(a: &[u32], b: &[u32], c: &[u32], d: &[u32]) -> u32
         ≡ ((zeros a.now && zeros b.now) && (zeros c.now && zeros d.now)) }
 {
     let mut all: u32 = 0;
-    let mut at: usize = 0;
-    while at < a.len() {
+    for at in 0..a.len() {
         all = all | a[at] | b[at] | c[at] | d[at];
-        at += 1;
     }
     all
 }
 
 // The joined bits of the words from `from` on.
 fn bits_from(level: &[u32], from: usize) -> u32
-    ensures { eqb result 0 ≡ zeros (drop from level.now) }
+    requires { from ≤ length level.now }
+    ensures { result ≡ fold bit_or 0 (drop from level.now) }
 {
-    let mut all: u32 = 0;
-    let mut at = from;
-    while at < level.len() {
-        all = all | level[at];
-        at += 1;
-    }
-    all
+    level[from..].iter().fold(0, |all, word| all | *word)
 }
 
 // Whether all words from `from` on are zero. Their bits are joined and tested once. After four parts of equal length at most three words are
@@ -64,7 +58,7 @@ pub fn sound_level(level: &[u32], s: Shape, i: u8, total: u64) -> bool
     requires { (length level.now ≡ level_words s) × (s.n ≤ 1024) × (s.k ≤ 20) × (i ≤ 24) }
     ensures { result ≡ sound_level s i total level.now }
 {
-    let count = wide(level[0]);
+    let count = level[0] as usize;
     let first = level[1];
     let n = s.n as usize;
     if n < count {

@@ -36,8 +36,5 @@ pub fn opening(clock: u32, window: u32) -> u32
     requires { 0 < window }
     ensures { result ≡ opening clock window }
 {
-    if clock < window {
-        return 0;
-    }
-    clock - (window - 1)
+    clock.saturating_sub(window - 1)
 }

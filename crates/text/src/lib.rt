@@ -14,12 +14,9 @@ fn copy(text: &[u8], out: &mut [u8], at: usize) -> usize
     ensures value { result ≡ at + length text.now }
     ensures out_after { out.new ≡ sets out.old at text.now }
 {
-    let mut i: usize = 0;
-    while i < text.len() {
-        out[at + i] = text[i];
-        i += 1;
-    }
-    at + text.len()
+    let end = at + text.len();
+    out[at..end].copy_from_slice(text);
+    end
 }
 
 // Writes the digits of a number, at most `most`, into the buffer from `at` on. Returns where they end.
@@ -55,12 +52,12 @@ fn line_of(word: &[u8], x: u64, out: &mut [u8]) -> usize
 fn number(why: Refusal) -> u64
     ensures { result ≡ number_of why }
 {
-    codes::number(why) as u64
+    u64::from(codes::number(why))
 }
 
 // Writes the line of an answer to the front of the buffer. Returns its length. If the buffer is shorter than 32 bytes, it writes nothing and
 // returns 0.
-pub fn answer(a: Answer, out: &mut [u8]) -> usize
+pub fn answer(a: Result<Answer, Refusal>, out: &mut [u8]) -> usize
     ensures value { result ≡ written (text_of (reply_of a)) out.old }
     ensures out_after { out.new ≡ stored (text_of (reply_of a)) out.old }
 {
@@ -68,10 +65,10 @@ pub fn answer(a: Answer, out: &mut [u8]) -> usize
         return 0;
     }
     match a {
-        Answer::Done => copy(b"ok\n", out, 0),
-        Answer::Splits(_) => copy(b"ok\n", out, 0),
-        Answer::Sum(sum) => line_of(b"= ", sum, out),
-        Answer::Refused(why) => line_of(b"refused ", number(why), out),
+        Ok(Answer::Done) => copy(b"ok\n", out, 0),
+        Ok(Answer::Splits(_)) => copy(b"ok\n", out, 0),
+        Ok(Answer::Sum(sum)) => line_of(b"= ", sum, out),
+        Err(why) => line_of(b"refused ", number(why), out),
     }
 }
 

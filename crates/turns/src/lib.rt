@@ -36,14 +36,12 @@ fn mark(t: Quick) -> Quick
 
 // The slots from `from` on, one by one.
 fn quick_rest(t: Quick, level: &[u32], from: usize, count: usize, least: u32, most: u32) -> Quick
-    requires { (2 + 3 * count ≤ length level.now) × (count ≤ 1024) }
+    requires { 2 + 3 * count ≤ length level.now }
     ensures { result ≡ quick_each least most t (slots level.now from (count - from)) }
 {
     let mut seen = t;
-    let mut next = from;
-    while next < count {
+    for next in from..count {
         seen = mark(quick_bucket(seen, slot_at(level, next), least, most));
-        next += 1;
     }
     seen
 }

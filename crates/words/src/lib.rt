@@ -1,9 +1,9 @@
 // What several crates do with words: a word as a number of another type, a power of two, the words of a slot, and two Booleans joined.
 #![tactic(auto)]
 
-ghost use Rattle.std.specs.Prelude.{◌≡◌, ◌&&◌, ◌+◌, ◌*◌, ◌^◌, ◌<◌, ◌≤◌, length, drop};
+ghost use Rattle.std.specs.Prelude.{◌≡◌, ◌&&◌, ◌+◌, ◌*◌, ◌^◌, ◌<◌, ◌≤◌, length, drop, map};
 ghost use Rattle.shape.specs.Layout.{slot_len, slot_start};
-ghost use Rattle.model.specs.Words.{slot};
+ghost use Rattle.model.specs.Words.{slot, slots};
 ghost use Rattle.model.specs.Sound.{implies};
 ghost use Rattle.words.specs.Slot.{content, front};
 
@@ -50,16 +50,33 @@ pub struct Slot {
     pub weight: u32,
 }
 
+impl From<&[u32; SLOT_LEN]> for Slot {
+    ghost from_gives = { λ ws r. content r ≡ front ws.now };
+
+    fn from(words: &[u32; SLOT_LEN]) -> Slot {
+        let [offset, width, weight] = *words;
+        Slot {
+            offset: offset,
+            width: width,
+            weight: weight,
+        }
+    }
+}
+
+// The words of the first `count` slots of a level, slot by slot.
+pub fn slots(level: &[u32], count: usize) -> &[[u32; SLOT_LEN]]
+    requires { slot_start count ≤ length level.now }
+    ensures { (map front result.now ≡ slots level.now 0 count) × (length result.now ≡ count) }
+{
+    let (all, _) = level[LEVEL_HEAD_LEN..].as_chunks::<SLOT_LEN>();
+    &all[..count]
+}
+
 pub fn slot_at(level: &[u32], j: usize) -> Slot
     requires { slot_start (j + 1) ≤ length level.now }
     ensures { content result ≡ slot level.now j }
 {
-    let at = LEVEL_HEAD_LEN + SLOT_LEN * j;
-    Slot {
-        offset: level[at],
-        width: level[at + 1],
-        weight: level[at + 2],
-    }
+    slot_from(level, LEVEL_HEAD_LEN + SLOT_LEN * j)
 }
 
 // The slot whose words start at `at`.

@@ -20,5 +20,5 @@ returns c =
         less-is d.result _ narrow d.ensures.value,
       ),
       omega (arith, c.below.ensures.1),
-      omega (arith, c.struct_known-10-1.given),
+      omega arith,
     )

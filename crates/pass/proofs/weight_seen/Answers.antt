@@ -4,4 +4,4 @@ use Rattle.pass.proofs.weight_seen.Goals as goal
 
 pub returns : goal.returns
 unfolding weight_seen
-returns c = rw (c.long.ensures.0, c.long-high.ensures.0)
+returns c = rw (c.from.ensures, c.from-high.ensures)

@@ -23,10 +23,10 @@ pub returns-then-is_enough : goal.returns-then-is_enough
 returns-then-is_enough c =
     let a = c.args in
     let rows = rw (c.most_of-high.ensures, c.least_of-low.ensures) at c.quick_buckets-t.ensures in
-    rw (c.weighs.ensures, c.long.ensures.0)
+    rw (c.weighs.ensures, c.from.ensures)
     (is_enough-weighs a.level.now a.count a.k (omega (arith, c.requires)) a.i a.total c.quick_buckets-t.result c.weight_of.result
     (omega (arith, c.requires)) (omega (arith, c.requires)) (rw c.is_tried.ensures at c.if-is_tried.true) rows
-    (rw c.is_enough.ensures at c.if-is_enough.true) c.weight_of.ensures)
+    (rw c.is_enough.ensures at c.if-is_enough.true) (rw c.slots.ensures.0 at c.weight_of.ensures))
 
 pub quick_buckets-t-requires-else-first-gt0 : goal.quick_buckets-t-requires-else-first-gt0
 quick_buckets-t-requires-else-first-gt0 c =
@@ -38,12 +38,13 @@ pub returns-then-is_enough-2 : goal.returns-then-is_enough-2
 returns-then-is_enough-2 c =
     let a = c.args in
     let rows = rw (c.most_of-high.ensures, c.least_of-low.ensures) at c.quick_buckets-t-else-first-gt0.ensures in
-    rw (c.weighs-then-is_enough-2.ensures, c.long-then-is_enough-2.ensures.0)
+    rw (c.weighs-then-is_enough-2.ensures, c.from-then-is_enough-2.ensures)
     (is_enough-weighs a.level.now a.count a.k (omega (arith, c.requires)) a.i a.total c.quick_buckets-t-else-first-gt0.result c.weight_of-then-is_enough-2.result
     (omega (arith, c.requires)) (omega (arith, c.requires)) (rw c.is_tried.ensures at c.if-is_tried.true) rows
-    (rw c.is_enough-else-first-gt0.ensures at c.if-is_enough-2.true) c.weight_of-then-is_enough-2.ensures)
+    (rw c.is_enough-else-first-gt0.ensures at c.if-is_enough-2.true)
+    (rw c.slots-then-is_enough-2.ensures.0 at c.weight_of-then-is_enough-2.ensures))
 
 pub returns : goal.returns
 returns c =
-    let v = c.judge_seen-v in
-    rw (c.both.ensures, c.weighs-right.ensures, v.ensures.1, v.ensures.0)
+    let v = rw c.slots-2.ensures.0 at c.judge_seen-v.ensures in
+    rw (c.both.ensures, c.weighs-right.ensures, v.1, v.0)

@@ -15,11 +15,11 @@ ends : (c : After-end) →
     c.end.result ≡ end_of (slot c.args.level.now (low + (c.loop-low.high - low) / 2))
 ends c = c.end.ensures ∙ ap end_of c.slot_at.ensures
 
-pub loop-low-preserved-then-long-end : goal.loop-low-preserved-then-long-end
-loop-low-preserved-then-long-end c =
+pub loop-low-preserved-then-from-end : goal.loop-low-preserved-then-from-end
+loop-low-preserved-then-from-end c =
     let a = c.args in
     let low = c.loop-low.low in
-    omega (arith, slot-most a.level.now a.x (low + (c.loop-low.high - low) / 2) (omega arith) (omega (arith, ends (goal.at.loop-low-preserved-then-long-end c).After-end)))
+    omega (arith, slot-most a.level.now a.x (low + (c.loop-low.high - low) / 2) (omega arith) (omega (arith, ends (goal.at.loop-low-preserved-then-from-end c).After-end)))
 
 pub loop-low-preserved : goal.loop-low-preserved
 loop-low-preserved c =

@@ -13,4 +13,4 @@ pub returns : goal.returns
 returns c =
     let a = c.args in
     let here : c.end.result ≡ end_of (slot a.level.now (a.high - a.step)) = c.end.ensures ∙ ap end_of c.slot_at.ensures in
-    rw (le-leb a.step a.high c.if-high-step.false, c.long.ensures.0, here)
+    rw (le-leb a.step a.high c.if-high-step.false, c.from.ensures, here)

@@ -1,13 +1,13 @@
--- Invariant: the sum so far and what the slots from j on add are the whole sum; j words are below j * 2 ^ 32.
+-- Invariant: the sum so far and what the slots that are left add are the whole sum; j words are below j * 2 ^ 32.
 use mathlib.Core.Path.{◌≡◌}
-use Prim.Native.Nat.{◌+◌, ◌-◌, ◌*◌, ◌^◌, ◌≤◌}
+use mathlib.Core.List.{map}
+use Prim.Native.Nat.{◌+◌, ◌*◌, ◌^◌, ◌≤◌}
+use lib.ListN.{drop}
 use Rattle.model.specs.Block.{sum_from}
-use Rattle.model.specs.Words.{slots, decode_level}
+use Rattle.words.specs.Slot.{front}
 use Rattle.scan.proofs.sum_from.Given as goal
 
-abbrev pub invariant-loop-j : goal.invariant-loop-j
-invariant-loop-j l =
-    (l.j ≤ l.count) × (l.sum ≤ l.j * 2 ^ 32) × (l.sum + sum_from l.a (slots l.level l.j (l.count - l.j)) ≡ sum_from l.a (decode_level l.level).buckets)
-
-abbrev pub decreases-loop-j : goal.decreases-loop-j
-decreases-loop-j l = l.count - l.j
+abbrev pub invariant-loop-words : goal.invariant-loop-words
+invariant-loop-words l =
+    (l.sum ≤ l.words-index * 2 ^ 32)
+    × (l.sum + sum_from l.a (map front (drop l.words-index l.words-items)) ≡ sum_from l.a (map front l.words-items))

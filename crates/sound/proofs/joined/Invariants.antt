@@ -9,8 +9,5 @@ use Rattle.sound.proofs.joined.Given as goal
 
 abbrev pub invariant-loop-at : goal.invariant-loop-at
 invariant-loop-at l =
-    (l.at ≤ length l.a) × ((eqb l.all 0 && ((zeros (drop l.at l.a) && zeros (drop l.at l.b)) && (zeros (drop l.at l.c) && zeros (drop l.at l.d))))
-    ≡ ((zeros l.a && zeros l.b) && (zeros l.c && zeros l.d)))
-
-abbrev pub decreases-loop-at : goal.decreases-loop-at
-decreases-loop-at l = length l.a - l.at
+    (eqb l.all 0 && ((zeros (drop l.at l.a) && zeros (drop l.at l.b)) && (zeros (drop l.at l.c) && zeros (drop l.at l.d))))
+    ≡ ((zeros l.a && zeros l.b) && (zeros l.c && zeros l.d))

@@ -22,7 +22,7 @@ regroup false false b c = refl
 
 pub returns-then-n-count : goal.returns-then-n-count
 unfolding sound_level
-returns-then-n-count c = simp (lt-leb _ _ (rw c.wide-count.ensures at c.if-n-count.true))
+returns-then-n-count c = simp (lt-leb _ _ c.if-n-count.true)
 
 pub returns : goal.returns
 unfolding sound_level
@@ -39,8 +39,7 @@ returns c =
       c.implied.ensures,
       c.sound_buckets-right.ensures,
       c.is_zero-unused.ensures,
-      c.wide-count.ensures,
-      le-leb count a.s.n (rw c.wide-count.ensures at c.if-n-count.false),
+      le-leb count a.s.n c.if-n-count.false,
     )
     (ap (λ (t : Bool). zeros (drop (slot_start count) ws) && t)
     (regroup (sound_buckets a.s.k a.i first bs) (leb weight a.total) (implies (eqb first 0) (eqb weight a.total))

@@ -7,6 +7,3 @@ use Rattle.turns.proofs.quick_rest.Given as goal
 abbrev pub invariant-loop-next : goal.invariant-loop-next
 invariant-loop-next l =
     quick_each l.least l.most l.seen (slots l.level l.next (l.count - l.next)) ≡ quick_each l.least l.most l.initial.seen (slots l.level l.from (l.count - l.from))
-
-abbrev pub decreases-loop-next : goal.decreases-loop-next
-decreases-loop-next l = l.count - l.next

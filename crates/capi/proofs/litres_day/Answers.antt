@@ -1,15 +1,15 @@
 -- The match says what finding the day answered.
 use mathlib.Core.Path.{sym, ap, ◌∙◌}
+use Rattle.model.specs.Reply.{reply_by}
 use Rattle.trace.specs.Found.{found_of}
 use Rattle.capi.specs.Told.{place_of}
 use Rattle.capi.proofs.litres_day.Goals as goal
 
-pub returns-in-At : goal.returns-in-At
-unfolding found_of
-returns-in-At c =
-    rw (c.wide.ensures, c.wide-in-At.ensures) (ap place_of (ap found_of (sym c.in-At.is) ∙ c.judge_day.ensures))
+pub returns-in-Ok : goal.returns-in-Ok
+unfolding reply_by
+returns-in-Ok c = ap place_of (ap found_of (sym c.in-Ok.is) ∙ c.judge_day.ensures)
 
-pub returns-in-Refused : goal.returns-in-Refused
-unfolding found_of
-returns-in-Refused c =
-    rw c.number.ensures (ap place_of (ap found_of (sym c.in-Refused.is) ∙ c.judge_day.ensures))
+pub returns-in-Err : goal.returns-in-Err
+unfolding reply_by
+returns-in-Err c =
+    rw c.number.ensures (ap place_of (ap found_of (sym c.in-Err.is) ∙ c.judge_day.ensures))

@@ -5,11 +5,11 @@ use Prim.Native.Nat.{ℕ}
 use Rattle.capi.specs.ToldLaws.{told_given, told_refused}
 use Rattle.capi.proofs.litres_ground.Goals as goal
 
-pub returns-in-Given : goal.returns-in-Given
-returns-in-Given c =
-    ap (λ (z : List ℕ). (0, z)) c.store.ensures ∙ told_given c.args.values.now c.ground.ensures c.in-Given.g c.in-Given.is
+pub returns-in-Ok : goal.returns-in-Ok
+returns-in-Ok c =
+    ap (λ (z : List ℕ). (0, z)) c.store.ensures ∙ told_given c.args.values.now c.ground.ensures c.in-Ok.g c.in-Ok.is
 
-pub returns-in-Refused : goal.returns-in-Refused
-returns-in-Refused c =
+pub returns-in-Err : goal.returns-in-Err
+returns-in-Err c =
     let held = c.args.values.now in
-    ap (λ (n : ℕ). (n, held)) c.number.ensures ∙ told_refused held c.ground.ensures c.in-Refused.why c.in-Refused.is
+    ap (λ (n : ℕ). (n, held)) c.number.ensures ∙ told_refused held c.ground.ensures c.in-Err.why c.in-Err.is

@@ -1,30 +1,20 @@
--- The match says which answer the question got.
+-- The match says whether the question is answered.
 use mathlib.Core.Path.{sym, ap, ◌∙◌}
 use Prim.Native.Nat.{ℕ}
-use Rattle.model.specs.Reply.{reply_of}
-use Rattle.capi.specs.ToldLaws.{told_sum}
+use Rattle.model.specs.Reply.{reply_by, sum_reply}
+use Rattle.model.specs.Calls.{Outcome}
+use Rattle.capi.specs.Told.{sum_of}
 use Rattle.capi.proofs.litres_query.Goals as goal
+use Rattle.capi.proofs.litres_query.Goals.{After-query}
 
-pub returns-in-Done : goal.returns-in-Done
-unfolding reply_of
-returns-in-Done c =
+pub returns-in-Ok : goal.returns-in-Ok
+unfolding reply_by
+returns-in-Ok c =
     let held = c.args.sum.now in
-    told_sum (sym c.in-Done.is) c.query.ensures held
+    ap (λ r. sum_of (sum_reply r) held) (sym c.in-Ok.is) ∙ ap (λ (o : Outcome _). sum_of o.reply held) c.query.ensures
 
-pub returns-in-Splits : goal.returns-in-Splits
-unfolding reply_of
-returns-in-Splits c =
+pub returns-in-Err : goal.returns-in-Err
+unfolding reply_by
+returns-in-Err c =
     let held = c.args.sum.now in
-    told_sum (sym c.in-Splits.is) c.query.ensures held
-
-pub returns-in-Sum : goal.returns-in-Sum
-unfolding reply_of
-returns-in-Sum c =
-    let held = c.args.sum.now in
-    told_sum (sym c.in-Sum.is) c.query.ensures held
-
-pub returns-in-Refused : goal.returns-in-Refused
-unfolding reply_of
-returns-in-Refused c =
-    let held = c.args.sum.now in
-    ap (λ (n : ℕ). (n, held)) c.number.ensures ∙ told_sum (sym c.in-Refused.is) c.query.ensures held
+    ap (λ (n : ℕ). (n, held)) c.number.ensures ∙ ap (λ r. sum_of (sum_reply r) held) (sym c.in-Err.is) ∙ ap (λ (o : Outcome _). sum_of o.reply held) c.query.ensures

@@ -1,17 +1,8 @@
 -- The constructor says whether the shape is within its limits.
-use mathlib.Core.Path.{sym, ap, ◌∙◌}
-use Rattle.shape.specs.Limits.{reply_of}
-use Rattle.shape.specs.LimitsLaws.{checked-within, checked_outside}
-use Rattle.shape.specs.Layout.{book_words}
+use Rattle.capi.specs.ToldLaws.{told_words}
 use Rattle.capi.proofs.litres_words.Goals as goal
 
-pub returns-in-Within : goal.returns-in-Within
-returns-in-Within c =
+pub returns : goal.returns
+returns c =
     let a = c.args in
-    let t = checked-within a.k a.n a.m a.g c.in-Within.shape (ap reply_of (sym c.in-Within.is) ∙ c.new.ensures) in
-    c.book_len.ensures ∙ ap book_words t.1 ∙ rw t.0
-
-pub returns-in-Outside : goal.returns-in-Outside
-returns-in-Outside c =
-    let a = c.args in
-    rw (checked_outside a.k a.n a.m a.g (ap reply_of (sym c.in-Outside.is) ∙ c.new.ensures))
+    told_words a.k a.n a.m a.g c.new.result c.map_or.result c.new.ensures c.map_or.ensures

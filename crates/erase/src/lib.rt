@@ -55,7 +55,7 @@ fn clear_half(block: &mut [u32], s: Shape, parity: u8)
 {
     let at = parity as usize;
     block[at] = 0;
-    for i in 0..s.last + 1 {
+    for i in 0..=s.last {
         clear_at(block, s, parity, i);
     }
 }

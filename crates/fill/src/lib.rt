@@ -34,7 +34,7 @@ fn fill(block: &mut [u32], s: Shape, stamp: u32, parity: u8, x: u32, v: u64) -> 
     let total = u64::from(block[at]) + v;
     block[at] = total as u32;
     let mut splits: u32 = 0;
-    for i in 0..s.last + 1 {
+    for i in 0..=s.last {
         splits += insert_at(block, s, parity, i, x, v);
     }
     splits

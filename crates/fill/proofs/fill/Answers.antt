@@ -1,10 +1,11 @@
 use mathlib.Core.Path.{◌≡◌, ap, ◌∙◌}
+use mathlib.Core.List.{List}
 use Prim.Native.Nat.{ℕ, suc, ◌+◌}
 use native.Mathlib.Numerals.{add-one}
 use lib.ListN.{get_or, set}
 use Rattle.laws.specs.BlockWords.{block_words-halves}
 use Rattle.laws.specs.DeliverSplits.{splits_from-start}
-use Rattle.fill.specs.Fill.{filled, total_fits, level_in, delivering_insertable, level_filled, level_splits_on}
+use Rattle.fill.specs.Fill.{Fills, Filling, filled, total_fits, level_in, delivering_insertable, level_filled, level_splits_on}
 use native.Mathlib.Omega.{arith}
 use Rattle.fill.proofs.fill.Goals as goal
 use Rattle.fill.proofs.fill.Goals.{After-from, After-insert_at-splits}
@@ -48,26 +49,40 @@ overflow_add-splits c =
     let top = c.requires.deliverable.whole.proper in
     omega (arith, c.loop-i.invariant.0, c.insert_at-splits.ensures.most, c.loop-i-test.true, top.last, top.limits.high_k, top.limits.high_m)
 
+-- level i has the volume too
+filling : (d : After-insert_at-splits) (ws : List ℕ)
+    → let a = d.args in
+    set a.block.now a.parity (d.from.result + a.v) ≡ set ws a.parity (get_or ws a.parity 0 + a.v) → Fills a.s a.stamp a.parity a.x a.v ws
+    → Filling a.s a.stamp a.v (suc d.loop-i.i) (d.loop-i.splits + d.insert_at-splits.result) ws d.insert_at-splits.new.block
+filling d ws e f =
+    let l = d.loop-i in
+    let a = d.args in
+    let done = d.insert_at-splits.ensures in
+    let so = l.invariant.1 ws e f in
+    record {
+      words = done.words ∙ rw so.words (level_filled a.s a.stamp a.parity a.x a.v ws f l.i (omega arith));
+      count = omega (arith, so.count, rw so.words at done.count, level_splits_on a.s a.stamp a.parity a.x a.v ws f l.i (omega arith));
+    }
+
 pub loop-i-preserved : goal.loop-i-preserved
 loop-i-preserved c =
-    let l = c.loop-i in
-    let a = c.args in
-    let done = c.insert_at-splits.ensures in
-    let top = c.requires.deliverable.whole.proper in (
-      omega (arith, l.invariant.0, done.most, top.limits.high_k),
-      λ ws e f.
-          let so = l.invariant.1 ws e f in
-          rw (add-one l.i)
-          (record {
-            words = done.words ∙ rw so.words (level_filled a.s a.stamp a.parity a.x a.v ws f l.i (omega arith));
-            count = omega (arith, so.count, rw so.words at done.count, level_splits_on a.s a.stamp a.parity a.x a.v ws f l.i (omega arith));
-          }),
-    )
+    let top = c.requires.deliverable.whole.proper in
+    let d = (goal.at.loop-i-preserved c).After-insert_at-splits in
+    (omega (arith, c.loop-i.invariant.0, c.insert_at-splits.ensures.most, top.limits.high_k), λ ws e f. rw (add-one c.loop-i.i) (filling d ws e f))
 
 pub returns : goal.returns
 returns c =
     let a = c.args in
     let all : c.loop-i.i ≡ suc a.s.last = omega (arith, c.loop-i.auto.i-end) in
     let so = rw all at (c.loop-i.invariant.1 a.block.now (start (goal.at.returns c).After-from) c.requires) in
+    let end = filled so c.requires.deliverable.whole in
+    record { words = end.0; count = end.1 }
+
+pub returns-2 : goal.returns-2
+returns-2 c =
+    let a = c.args in
+    let last : c.loop-i.i ≡ a.s.last = omega arith in
+    let d = (goal.at.returns-2 c).After-insert_at-splits in
+    let so = rw last at (filling d a.block.now (start (goal.at.returns-2 c).After-from) c.requires) in
     let end = filled so c.requires.deliverable.whole in
     record { words = end.0; count = end.1 }

@@ -1,5 +1,5 @@
 -- One level of a block as the code reads it, and the loops over levels, one turn at a time. Assumes nothing.
-use Rattle.std.specs.Prelude.{Bool, true, false, cond, ◌&&◌, ◌≡◌, length, get_or, eqb}
+use Rattle.std.specs.Prelude.{Bool, false, cond, ◌&&◌, ◌≡◌, length, get_or, eqb}
 use mathlib.Core.List.{List}
 use Rattle.std.proofs.Common.{ap, ◌∙◌, mul-le-mul_right, add-one, arith, pow_pos, pow_mono, le-leb}
 use Prim.Native.Nat.{ℕ, suc, ◌+◌, ◌-◌, ◌*◌, ◌%◌, ◌^◌, ◌≤◌, ◌<◌}
@@ -56,9 +56,6 @@ module _ (s : Shape) (parity : ℕ) (ws : List ℕ) (i : ℕ) where
     pub index_next : (a : ℕ) → a < (level_at s parity ws i).first
         → serving_index a (levels_from s parity ws i) ≡ suc (serving_index a (levels_from s parity ws (i + 1)))
     index_next a h = rw (levels_from_step s parity ws i low, lt-leb (level_at s parity ws i).first a h, add-one i)
-
-  pub sound_from-none : s.last < i → sound_from s parity ws i ≡ true
-  sound_from-none h = ap (all_from (sound_at s parity ws) i) {x = suc s.last - i} {y = 0} (omega arith)
 
 module _ (s : Shape) (parity : ℕ) (ws : List ℕ) where
   -- where the loop starts

@@ -12,6 +12,9 @@ ghost use Rattle.block.specs.Steps.{LevelIn};
 use shape::Shape;
 use stamp::{interval, offset, opening, parity};
 
+// A block's words and the shape stay two parameters: docs/ARCHITECTURE.md names `check`, `finest` and `window_sum`, so no type with an invariant
+// may stand in their place.
+
 // How many decilitres a half takes at most.
 fn capacity(s: Shape) -> u64
     requires { s.m ≤ 31 }

@@ -1,5 +1,5 @@
 -- One level of a block as the code reads it, and the loops over levels, one turn at a time. Assumes nothing.
-use Rattle.std.specs.Prelude.{Bool, true, false, cond, ◌&&◌, ◌≡◌, length, get_or, eqb}
+use Rattle.std.specs.Prelude.{Bool, false, cond, ◌&&◌, ◌≡◌, length, get_or, eqb}
 use mathlib.Core.List.{List}
 use Rattle.std.proofs.Common.{ap, ◌∙◌, mul-le-mul_right, add-one, arith, pow_pos, pow_mono, le-leb}
 use Prim.Native.Nat.{ℕ, suc, ◌+◌, ◌-◌, ◌*◌, ◌%◌, ◌^◌, ◌≤◌, ◌<◌}
@@ -17,8 +17,8 @@ use Rattle.laws.specs.SumFrom.{sum_from-falls}
 use Rattle.laws.specs.InsertSound.{sound_serves}
 use Rattle.laws.specs.BlockSound.{serving-index}
 use Rattle.laws.specs.LevelWords.{length-slots}
-use Rattle.laws.specs.BlockWords.{level_start_fits}
-use Rattle.laws.specs.HalfWrites.{half_of_decode, total_decode, level_at, levels_from, levels_from_step, whole_total, whole_level}
+use Rattle.laws.specs.BlockWords.{level_start_fits, block_words-halves, length-level_part}
+use Rattle.laws.specs.HalfWrites.{half_of_decode, total_decode, level_at, levels_from, levels_from_step, levels_from_all, whole_total, whole_level}
 use Rattle.laws.specs.Proper.{Sized, Whole}
 
 -- the words of a block have room for level i, in the half of a parity
@@ -56,9 +56,6 @@ module _ (s : Shape) (parity : ℕ) (ws : List ℕ) (i : ℕ) where
     pub index_next : (a : ℕ) → a < (level_at s parity ws i).first
         → serving_index a (levels_from s parity ws i) ≡ suc (serving_index a (levels_from s parity ws (i + 1)))
     index_next a h = rw (levels_from_step s parity ws i low, lt-leb (level_at s parity ws i).first a h, add-one i)
-
-  pub sound_from-none : s.last < i → sound_from s parity ws i ≡ true
-  sound_from-none h = ap (all_from (sound_at s parity ws) i) {x = suc s.last - i} {y = 0} (omega arith)
 
 module _ (s : Shape) (parity : ℕ) (ws : List ℕ) where
   -- where the loop starts
@@ -114,3 +111,9 @@ pub answer_decode : (s : Shape) (clock start : ℕ) (ws : List ℕ) → answer s
     cond (eqb (interval s start) (interval s clock)) sum (sum + get_or ws (interval s clock % 2) 0))
 unfolding answer
 answer_decode s clock start ws = rw (half_of_decode s (interval s start) ws, total_decode s (interval s clock) ws)
+
+pub ruleset totals = (block_words-halves, total_decode)
+
+pub ruleset half_checks = (block_words-halves, length-level_part, sound_half_over, sound_from_all, sound_from_step)
+
+pub ruleset level_search = (length-level_part, levels_from_all, index_here, index_next, last_index)

@@ -12,6 +12,9 @@ ghost use Rattle.block.specs.Steps.{LevelIn};
 use shape::Shape;
 use stamp::{interval, offset, opening, parity};
 
+// A block's words and the shape stay two parameters: docs/ARCHITECTURE.md names `check`, `finest` and `window_sum`, so no type with an invariant
+// may stand in their place.
+
 // How many decilitres a half takes at most.
 fn capacity(s: Shape) -> u64
     requires { s.m ≤ 31 }
@@ -41,6 +44,7 @@ pub fn total(block: &[u32], j: u32) -> u64
 }
 
 // Whether the half that serves a stamp's interval has no room for a volume. The words may be any.
+#[tactic(auto, using(crate::specs::Steps::totals))]
 pub fn is_full(block: &[u32], s: Shape, stamp: u32, volume: u32) -> bool
     requires { Sized s block.now }
     ensures { result ≡ ltb (2 ^ s.m) ((half_of (interval s stamp) (decode_block s block.now)).total + volume) }
@@ -50,6 +54,7 @@ pub fn is_full(block: &[u32], s: Shape, stamp: u32, volume: u32) -> bool
 }
 
 // Whether the half of a parity is sound. The words may be any.
+#[tactic(auto, using(crate::specs::Steps::half_checks))]
 fn check_half(block: &[u32], s: Shape, parity: u8) -> bool
     requires { Sized s block.now × (parity ≤ 1) }
     ensures { result ≡ sound_half s parity block.now }
@@ -76,6 +81,7 @@ pub fn check(block: &[u32], s: Shape) -> bool
 }
 
 // The finest level of a half whose F is at most a. The last level has F = 0, so it is not tested.
+#[tactic(auto, using(crate::specs::Steps::level_search), unfolding(model::specs::Words::decode_level))]
 pub fn finest(block: &[u32], s: Shape, parity: u8, a: u32) -> u8
     requires { Whole s block.now × (parity ≤ 1) }
     ensures { result ≡ serving_index a (decode_half s parity block.now).levels }

@@ -9,6 +9,9 @@ ghost use Rattle.book.specs.Part.{InBook};
 
 use shape::Shape;
 
+// The book, the shape and the grade stay three parameters: docs/ARCHITECTURE.md names this crate, so no type with an invariant may stand in their
+// place.
+
 // The words of a grade's block, as a part of the book.
 #[tactic(auto, using(crate::specs::Part::block_within))]
 pub fn block_at(book: &[u32], s: Shape, grade: u32) -> &[u32]

@@ -11,14 +11,16 @@ ghost use Rattle.session.specs.Session.{initial, end_line, feed_byte, end_input,
 use lines::Line;
 use model::{Answer, Refusal};
 
-// The state between two bytes of the input. The buffer of words and the bytes of the output are lent beside it.
+// The state between two bytes of the input. The buffer of words and the bytes of the output are lent beside it and not in it, since the clauses
+// `bench` of `begin`, `feed` and `end_input`, which stay, take them apart.
 #[derive(Clone, Copy)]
 pub struct Session {
     // The line as far as it has been read, none if it has no byte yet.
     line: Option<Line>,
     // How many words a call is lent.
     lent: usize,
-    // How many bytes at the front of the output wait to be written. The bytes after them are left open.
+    // How many bytes at the front of the output wait to be written. The bytes after them are left open. A length beside a lent buffer, and no
+    // Vec: the memory is fixed.
     pub used: usize,
 }
 

@@ -3,7 +3,7 @@
 
 ghost use Rattle.std.specs.Prelude.{◌≡◌, ◌+◌, ◌≤◌, length};
 ghost use Rattle.std.proofs.lemmas.List.Edits.{sets};
-ghost use Rattle.model.specs.Reply.{number_of, reply_of};
+ghost use Rattle.model.specs.Reply.{reply_of};
 ghost use Rattle.text.specs.Text.{digits_of, numbered, text_of, unread_text, written, stored};
 
 use model::{Answer, Refusal};
@@ -19,7 +19,8 @@ fn copy(text: &[u8], out: &mut [u8], at: usize) -> usize
     end
 }
 
-// Writes the digits of a number, at most `most`, into the buffer from `at` on. Returns where they end.
+// Writes the digits of a number, at most `most`, into the buffer from `at` on. Returns where they end. By hand: std's writers into a slice do not
+// promise what they write, and its other writers take memory, which the library has none of.
 fn digits(x: u64, most: usize, out: &mut [u8], at: usize) -> usize
     requires { at + most ≤ length out.old }
     ensures value { result ≡ at + length (digits_of most x) }
@@ -49,12 +50,6 @@ fn line_of(word: &[u8], x: u64, out: &mut [u8]) -> usize
     end + 1
 }
 
-fn number(why: Refusal) -> u64
-    ensures { result ≡ number_of why }
-{
-    u64::from(codes::number(why))
-}
-
 // Writes the line of an answer to the front of the buffer. Returns its length. If the buffer is shorter than 32 bytes, it writes nothing and
 // returns 0.
 pub fn answer(a: Result<Answer, Refusal>, out: &mut [u8]) -> usize
@@ -68,11 +63,11 @@ pub fn answer(a: Result<Answer, Refusal>, out: &mut [u8]) -> usize
         Ok(Answer::Done) => copy(b"ok\n", out, 0),
         Ok(Answer::Splits(_)) => copy(b"ok\n", out, 0),
         Ok(Answer::Sum(sum)) => line_of(b"= ", sum, out),
-        Err(why) => line_of(b"refused ", number(why), out),
+        Err(why) => line_of(b"refused ", u64::from(codes::number(why)), out),
     }
 }
 
-// The same for a line that is unread.
+// The same for a line that is unread. It tests the length itself, since one function for both would only put the test before a match.
 pub fn unread(out: &mut [u8]) -> usize
     ensures value { result ≡ written unread_text out.old }
     ensures out_after { out.new ≡ stored unread_text out.old }

@@ -35,5 +35,6 @@ returns-in-Ok-Sum c =
 pub returns-in-Err : goal.returns-in-Err
 returns-in-Err c =
     let why = c.in-Err.why in
-    rw (c.in-Err.is, refused_text why, ← c.number.ensures)
-    (let p = stored-front (numbered refused_word c.number.result) c.args.out.now c.if-out-lt32.false (numbered_fits refused_word c.number.result (omega arith)) (c.line_of-in-Err.ensures.value, c.line_of-in-Err.ensures.out_after) in record { value = p.0; out_after = p.1 })
+    let number = c.from.result in
+    rw (c.in-Err.is, refused_text why, ← c.number.ensures, ← c.from.ensures)
+    (let p = stored-front (numbered refused_word number) c.args.out.now c.if-out-lt32.false (numbered_fits refused_word number (omega arith)) (c.line_of-in-Err.ensures.value, c.line_of-in-Err.ensures.out_after) in record { value = p.0; out_after = p.1 })

@@ -9,6 +9,6 @@ pub returns : goal.returns
 unfolding reply_by
 returns g c =
     elim c.match-answer.branch [
-      in-Ok w ↦ w.result-is ∙ ap (λ r. (reply_by (λ _. accepted []) r).number) (sym w.in-Ok.is)
-    | in-Err w ↦ w.result-is ∙ w.number.ensures ∙ ap (λ r. (reply_by (λ _. accepted []) r).number) (sym w.in-Err.is)
+      | in-Ok w ↦ w.result-is ∙ ap (λ r. (reply_by (λ _. accepted []) r).number) (sym w.in-Ok.is)
+      | in-Err w ↦ w.result-is ∙ w.number.ensures ∙ ap (λ r. (reply_by (λ _. accepted []) r).number) (sym w.in-Err.is)
     ]

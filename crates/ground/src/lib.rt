@@ -2,17 +2,13 @@
 #![tactic(auto)]
 
 ghost use Rattle.std.specs.Prelude.{◌≡◌, ◌≤◌, ◌<◌, length};
-ghost use Rattle.shape.specs.Limits.{accepted};
 ghost use Rattle.model.specs.Words.{decode_half, decode_block};
 ghost use Rattle.model.specs.Ground.{error_limit, finer_than, ground_of, ground_reply, ground_values, ground};
-ghost use Rattle.model.specs.declared.Call.TheVariants as Call;
 ghost use Rattle.laws.specs.Proper.{Whole};
 ghost use Rattle.block.specs.Steps.{LevelIn};
-ghost use Rattle.book.specs.Judgement.{first_refusal};
-ghost use Rattle.judge.specs.Judge.{Open};
 
 use block::{finest, level_at, window_sum};
-use book::{Opened, block_at};
+use book::block_at;
 use judge::judge_query;
 use model::{Finer, Ground, Refusal};
 use shape::Shape;
@@ -76,25 +72,14 @@ fn block_ground(block: &[u32], s: Shape, clock: u32, window: u32) -> Ground
     opened_ground(block, s, clock, window)
 }
 
-// The ground of a question that is not refused: only its block is handed on.
-fn explain(book: &[u32], opened: Opened, grade: u32, window: u32) -> Ground
-    requires { Open book.now opened.shape opened.clock × (first_refusal book.now (Call.Query grade window) ≡ 0) }
-    ensures { accepted (ground_values result) ≡ ground book.now grade window }
-{
-    block_ground(
-        block_at(book, opened.shape, grade),
-        opened.shape,
-        opened.clock,
-        window,
-    )
-}
-
-// Refused as a question is.
+// Refused as a question is. Only the block of the grade is handed on.
 pub fn ground(book: &[u32], grade: u32, window: u32) -> Result<Ground, Refusal>
     ensures { ground_reply result ≡ ground book.now grade window }
 {
     let opened = judge_query(book, grade, window)?;
-    Ok(explain(book, opened, grade, window))
+    let words = block_at(book, opened.shape, grade);
+    let ground = block_ground(words, opened.shape, opened.clock, window);
+    Ok(ground)
 }
 
 // Writes the five values of a ground over these words.

@@ -175,14 +175,18 @@ module _ {ws : List ℕ} {s : Shape} {clock grade stamp volume : ℕ} (d : Due w
       delivery_judges ws s clock d.book grade stamp volume
       ∙ rw (lt-ltb grade s.g d.inside, d.fair, le-ltb clock stamp d.come, lt-leb (stamp + 2 ^ s.k) clock d.early)
 
--- if a call is accepted, the book is open
-pub judges_open : (ws : List ℕ) (o : Opened) (call : Call) → Begins call → Told (first_refusal ws call) ws (Ok o) → Open ws o.shape o.clock
-unfolding opened_number
-judges_open ws o call b j = record {
-  number = starts (book_view ws) (rest_of (book_view ws) call) (sym (ap first_of (begins (book_view ws) call b)) ∙ j.0);
-  same = j.1;
-  now = j.2;
-}
+-- if judging a call gives a book, the call is accepted and the book is open
+module _ (ws : List ℕ) (o : Opened) (call : Call) (judged : opened_of (Ok o) ≡ judgement (first_refusal ws call) ws) where
+  pub judged_accepted : first_refusal ws call ≡ 0
+  judged_accepted = (judgement_told _ _ (Ok o) judged).0
+
+  pub judged_open : Begins call → Open ws o.shape o.clock
+  unfolding opened_number
+  judged_open b = let j = judgement_told _ _ (Ok o) judged in record {
+    number = starts (book_view ws) (rest_of (book_view ws) call) (sym (ap first_of (begins (book_view ws) call b)) ∙ j.0);
+    same = j.1;
+    now = j.2;
+  }
 
 -- ---- an accepted question of an open book: its block is a part of the book, and whole
 

@@ -117,3 +117,5 @@ pub ruleset totals = (block_words-halves, total_decode)
 pub ruleset half_checks = (block_words-halves, length-level_part, sound_half_over, sound_from_all, sound_from_step)
 
 pub ruleset level_search = (length-level_part, levels_from_all, index_here, index_next, last_index)
+
+pub ruleset sums = (block_words-halves, length-level_part, count_few, total_small, sum-small, index_serves, answer_decode)

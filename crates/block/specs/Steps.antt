@@ -31,11 +31,6 @@ pub record LevelIn (s : Shape) (parity i : ℕ) (ws : List ℕ) : Type 0 where
 pub level-within : {s : Shape} {parity i : ℕ} {ws : List ℕ} → LevelIn s parity i ws → (level_start s parity i + level_words s ≤ length ws) × (length ws < 2 ^ 29)
 level-within {s} {parity} {i} w = omega (arith, level_start_fits s parity i w.half w.index, block_words_bits s (omega arith) (omega arith))
 
--- what `using` lists name, since those take no name with a dash
-pub ruleset level_bounds = (level-within)
-
-pub ruleset window_cases = (window_sum-none, window_sum_some)
-
 -- whether level i is sound
 abbrev pub sound_at : Shape → ℕ → List ℕ → ℕ → Bool
 sound_at s parity ws i = sound_level s i (get_or ws (total_start parity) 0) (level_part s parity i ws)
@@ -112,8 +107,16 @@ pub answer_decode : (s : Shape) (clock start : ℕ) (ws : List ℕ) → answer s
 unfolding answer
 answer_decode s clock start ws = rw (half_of_decode s (interval s start) ws, total_decode s (interval s clock) ws)
 
+-- ---- what the functions' `using` lists name: each holds the laws that a function's goals rest on
+
+pub ruleset level_bounds = (level-within)
+
+pub ruleset window_cases = (window_sum-none, window_sum_some)
+
 pub ruleset totals = (block_words-halves, total_decode)
 
 pub ruleset half_checks = (block_words-halves, length-level_part, sound_half_over, sound_from_all, sound_from_step)
 
 pub ruleset level_search = (length-level_part, levels_from_all, index_here, index_next, last_index)
+
+pub ruleset sums = (block_words-halves, length-level_part, count_few, total_small, sum-small, index_serves, answer_decode)

@@ -96,6 +96,7 @@ pub fn finest(block: &[u32], s: Shape, parity: u8, a: u32) -> u8
 }
 
 // The sum of a window that opens at tick `start`.
+#[tactic(auto, using(crate::specs::Steps::sums))]
 fn sum(block: &[u32], s: Shape, clock: u32, start: u32) -> u64
     requires { Whole s block.now }
     ensures { result ≡ answer s clock start (decode_block s block.now) }

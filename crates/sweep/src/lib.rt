@@ -14,6 +14,7 @@ pub use head::write_head;
 use shape::Shape;
 
 // Hands every block, from grade 0 on, to a step that rewrites it.
+#[tactic(auto, using(laws::specs::BookWords::block_start_fits))]
 fn rewrite_blocks<F: Fn(&mut [u32])>(book: &mut [u32], s: Shape, rewrite: F)
     requires size { length book.old ≡ book_words s }
     requires callable { IsCallableAtBlocks (F.pre rewrite) s book.old }

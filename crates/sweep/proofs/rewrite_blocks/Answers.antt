@@ -7,7 +7,6 @@ use borrow.Rule.Slice.PartMut.{Post-is}
 use Prim.Native.Nat.{◌+◌, ◌-◌}
 use lib.ListN.{take, drop}
 use Rattle.model.specs.Words.{block_part}
-use Rattle.laws.specs.BookWords.{block_start_fits}
 use Rattle.laws.specs.BookWrites.{swept_none, swept-part, swept-more, swept_all}
 use Rattle.sweep.proofs.rewrite_blocks.Given.{Over}
 use Rattle.sweep.proofs.rewrite_blocks.Goals as goal
@@ -29,15 +28,6 @@ loop-grade-init g c f r =
     let s = c.args.s in
     let ws = c.args.book.now in
     sym (swept_none s (λ grade. f (block_part s grade ws)) ws c.requires.size r.sized)
-
-pub overflow_add-e : goal.overflow_add-e
-overflow_add-e g c = omega (arith, block_start_fits c.args.s c.loop-grade.grade (omega arith), c.requires.size)
-
-pub offset_bounds-book-a : goal.offset_bounds-book-a
-offset_bounds-book-a g c = omega (arith, block_start_fits c.args.s c.loop-grade.grade (omega arith), c.requires.size)
-
-pub slice_bounds-rewrite-end : goal.slice_bounds-rewrite-end
-slice_bounds-rewrite-end g c = omega (arith, block_start_fits c.args.s c.loop-grade.grade (omega arith), c.requires.size)
 
 pub rewrite-requires : goal.rewrite-requires
 rewrite-requires g c = c.requires.callable c.loop-grade.grade (omega arith) _ (part g (goal.at.rewrite-requires g c).After-block_len)

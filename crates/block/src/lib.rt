@@ -36,7 +36,7 @@ pub fn total(block: &[u32], j: u32) -> u64
     ensures { result ≡ get_or block.now (total_start (j % 2)) 0 }
 {
     let at = (j % 2) as usize;
-    block[at] as u64
+    u64::from(block[at])
 }
 
 // Whether the half that serves a stamp's interval has no room for a volume. The words may be any.
@@ -45,7 +45,7 @@ pub fn is_full(block: &[u32], s: Shape, stamp: u32, volume: u32) -> bool
     ensures { result ≡ ltb (2 ^ s.m) ((half_of (interval s stamp) (decode_block s block.now)).total + volume) }
 {
     let total = total(block, interval(s, stamp));
-    capacity(s) < total + (volume as u64)
+    capacity(s) < total + u64::from(volume)
 }
 
 // Whether the half of a parity is sound. The words may be any.
@@ -53,16 +53,14 @@ fn check_half(block: &[u32], s: Shape, parity: u8) -> bool
     requires { Sized s block.now × (parity ≤ 1) }
     ensures { result ≡ sound_half s parity block.now }
 {
-    let total = total(block, parity as u32);
+    let total = total(block, u32::from(parity));
     if capacity(s) < total {
         return false;
     }
-    let mut level: u8 = 0;
-    while level <= s.last {
+    for level in 0..=s.last {
         if !sound::sound_level(level_at(block, s, parity, level), s, level, total) {
             return false;
         }
-        level += 1;
     }
     true
 }
@@ -83,15 +81,13 @@ pub fn finest(block: &[u32], s: Shape, parity: u8, a: u32) -> u8
     requires { Whole s block.now × (parity ≤ 1) }
     ensures { result ≡ serving_index a (decode_half s parity block.now).levels }
 {
-    let mut finest: u8 = 0;
-    while finest < s.last {
+    for finest in 0..s.last {
         let level = level_at(block, s, parity, finest);
         if level[1] <= a {
             return finest;
         }
-        finest += 1;
     }
-    finest
+    s.last
 }
 
 // The sum of a window that opens at tick `start`.

@@ -1,5 +1,5 @@
 -- Laws of what opening a book answers: its cases, and what each part of the head says. Assumes nothing.
-use Rattle.std.specs.Prelude.{Bool, not, ◌&&◌, ◌≡◌, List, [], ◌∷◌, ◌++◌, ℕ, ◌≤◌, ◌<◌, length}
+use Rattle.std.specs.Prelude.{Result, Ok, Err, Bool, not, ◌&&◌, ◌≡◌, List, [], ◌∷◌, ◌++◌, ℕ, ◌≤◌, ◌<◌, length}
 use Rattle.std.proofs.Math.Bool.{true, false, cond}
 use Rattle.std.proofs.Math.Path.{refl, ap}
 use Rattle.std.proofs.Common.{sym}
@@ -13,33 +13,33 @@ use Rattle.shape.specs.Layout.{head_len, book_words}
 use Rattle.model.specs.Words.{shape_of, clock_of}
 use Rattle.model.specs.Sound.{sound_head, max_clock}
 use Rattle.model.specs.Calls.{book_view}
-use Rattle.model.specs.Reply.{number_of}
+use Rattle.model.specs.declared.Refusal.{Refusal}
+use Rattle.model.specs.Reply.{number_of, reply_by}
 use Rattle.laws.specs.Refusals.{number_of_pos}
 use Rattle.book.specs.declared.head.Opened.{Opened}
-use Rattle.book.specs.declared.head.Opened.TheVariants.{Book, Refused}
 use Rattle.book.specs.Judgement.{opened_of, judgement, opened_number}
 
 -- ---- the same, case by case
 
-abbrev pub Told : ℕ → List ℕ → Opened → Type 0
-Told number ws (Book s clock) = (number ≡ 0) × (s ≡ shape_of ws) × (clock ≡ clock_of ws)
-Told number ws (Refused r) = number ≡ number_of r
+abbrev pub Told : ℕ → List ℕ → Result Opened Refusal → Type 0
+Told number ws (Ok o) = (number ≡ 0) × (o.shape ≡ shape_of ws) × (o.clock ≡ clock_of ws)
+Told number ws (Err why) = number ≡ number_of why
 
 module _ (number : ℕ) (ws : List ℕ) where
-  pub told_judgement : (r : Opened) → Told number ws r → opened_of r ≡ judgement number ws
-  unfolding opened_of judgement
-  told_judgement (Book s clock) t = rw (t.0, t.1, t.2)
-  told_judgement (Refused r) t = rw (t, ne_eqb (number_of r) 0 (number_of_pos r))
+  pub told_judgement : (r : Result Opened Refusal) → Told number ws r → opened_of r ≡ judgement number ws
+  unfolding reply_by judgement
+  told_judgement (Ok o) t = rw (t.0, t.1, t.2)
+  told_judgement (Err why) t = rw (t, ne_eqb (number_of why) 0 (number_of_pos why))
 
-  pub judgement_told : (r : Opened) → opened_of r ≡ judgement number ws → Told number ws r
-  unfolding opened_of judgement
+  pub judgement_told : (r : Result Opened Refusal) → opened_of r ≡ judgement number ws → Told number ws r
+  unfolding reply_by judgement
   judgement_told r e = go (eqb number 0) refl r e
     where
-      go : (t : Bool) → eqb number 0 ≡ t → (r : Opened) → opened_of r ≡ cond t (accepted (values_of (shape_of ws) ++ clock_of ws ∷ [])) (refused number) → Told number ws r
-      go true h (Book s clock) e = (eqb-true number 0 h, ap (λ (x : Reply). shape_in x.values) e, ap (λ (x : Reply). get_or x.values 5 0) e)
-      go true h (Refused r) e = absurd (number_of_pos r (ap (λ (x : Reply). x.number) e))
-      go false h (Book s clock) e = let none : 0 ≡ number = ap (λ (x : Reply). x.number) e in absurd (eqb-false number 0 h (sym none))
-      go false h (Refused r) e = ap (λ (x : Reply). x.number) (sym e)
+      go : (t : Bool) → eqb number 0 ≡ t → (r : Result Opened Refusal) → opened_of r ≡ cond t (accepted (values_of (shape_of ws) ++ clock_of ws ∷ [])) (refused number) → Told number ws r
+      go true h (Ok o) e = (eqb-true number 0 h, ap (λ (x : Reply). shape_in x.values) e, ap (λ (x : Reply). get_or x.values 5 0) e)
+      go true h (Err why) e = absurd (number_of_pos why (ap (λ (x : Reply). x.number) e))
+      go false h (Ok o) e = let none : 0 ≡ number = ap (λ (x : Reply). x.number) e in absurd (eqb-false number 0 h (sym none))
+      go false h (Err why) e = ap (λ (x : Reply). x.number) (sym e)
 
 -- ---- what the head says
 

@@ -5,13 +5,13 @@ ghost use Rattle.book.specs.Judgement.{opened_of, judgement, opened_number};
 ghost use Rattle.book.specs.Head.{Shaped, is_blank};
 
 use model::{MAX_CLOCK, Refusal};
-use shape::{Checked, HEAD_LEN, Shape};
+use shape::{HEAD_LEN, Shape};
 
-// What opening a book, or judging a call, answers: the shape and the clock of the book, or the refusal.
+// What opening a book, or judging a call, gives: the shape and the clock of the book.
 #[derive(Clone, Copy)]
-pub enum Opened {
-    Book { shape: Shape, clock: u32 },
-    Refused(Refusal),
+pub struct Opened {
+    pub shape: Shape,
+    pub clock: u32,
 }
 
 // Whether the last three words of the head are zero.
@@ -29,7 +29,7 @@ fn is_blank(book: &[u32]) -> bool
 }
 
 // A book of this shape: tests its clock, the last words of its head and its length.
-fn with_shape(book: &[u32], shape: Shape) -> Opened
+fn with_shape(book: &[u32], shape: Shape) -> Result<Opened, Refusal>
     requires { Shaped book.now shape }
     ensures { opened_of result ≡ judgement (opened_number book.now) book.now }
 {
@@ -37,26 +37,24 @@ fn with_shape(book: &[u32], shape: Shape) -> Opened
     let blank = is_blank(book);
     let whole = book.len() == shape.book_len();
     if MAX_CLOCK < clock {
-        return Opened::Refused(Refusal::Head);
+        return Err(Refusal::Head);
     }
     if !blank {
-        Opened::Refused(Refusal::Head)
+        Err(Refusal::Head)
     } else if !whole {
-        Opened::Refused(Refusal::Length)
+        Err(Refusal::Length)
     } else {
-        Opened::Book { shape, clock }
+        Ok(Opened { shape, clock })
     }
 }
 
 // Opens words of any length and content.
-pub fn open(book: &[u32]) -> Opened
+pub fn open(book: &[u32]) -> Result<Opened, Refusal>
     ensures { opened_of result ≡ judgement (opened_number book.now) book.now }
 {
     if book.len() < HEAD_LEN {
-        return Opened::Refused(Refusal::Length);
+        return Err(Refusal::Length);
     }
-    match Shape::new(book[0], book[1], book[2], book[3]) {
-        Checked::Within(shape) => with_shape(book, shape),
-        Checked::Outside => Opened::Refused(Refusal::Head),
-    }
+    let shape = Shape::new(book[0], book[1], book[2], book[3]).ok_or(Refusal::Head)?;
+    with_shape(book, shape)
 }

@@ -40,13 +40,5 @@ pub fn all_sound(book: &[u32], s: Shape) -> bool
     requires { (length book.now ≡ book_words s) × Proper s }
     ensures { result ≡ all_from (λ grade. sound_block s (block_part s grade book.now)) 0 s.g }
 {
-    let count = s.g as u32;
-    let mut grade: u32 = 0;
-    while grade < count {
-        if !block_sound(book, s, grade) {
-            return false;
-        }
-        grade += 1;
-    }
-    true
+    (0..u32::from(s.g)).all(|grade| block_sound(book, s, grade))
 }

@@ -1,5 +1,6 @@
 -- What putting a bucket in, and splitting one, require of the words and leave. Rests on the laws of one round.
 use Rattle.std.specs.Prelude.{cond, List, [], ◌∷◌, ◌++◌, ◌≡◌, ℕ, suc, ◌+◌, ◌-◌, ◌*◌, ◌/◌, ◌^◌, ◌≤◌, ◌<◌, ltb, eqb, length, get_or, set}
+use Rattle.std.specs.List.{copy_within}
 use Rattle.std.proofs.Common.{ap, ◌∙◌, arith, lt-ltb, le-ltb, length-append, get_or-set_other}
 use Rattle.shape.specs.Layout.{level_head_len, slot_len, slot_start}
 use Rattle.model.specs.Level.{Bucket, bucket_of, level_of, evict}
@@ -44,6 +45,21 @@ takes_at n f x before after ws j place held few passed small some most =
     below : (before : List Bucket) → length before ≡ j → Passed x before → 0 < j → head_offset (before ++ after) ≤ x
     below [] place passed h = absurd (omega arith)
     below (c ∷ before) place passed h = omega (arith, passed.0)
+
+-- ---- slots moved by one
+
+-- what `copy_within` leaves is what the laws say of the slots from j to `count` moved up
+pub raised : (ws : List ℕ) (j count : ℕ) → copy_within ws (slot_start j) (slot_start count) (slot_start (j + 1)) ≡ raise ws (slot_start j) (slot_len * (count - j))
+unfolding raise
+raised ws j count =
+    let to : slot_start (j + 1) ≡ slot_start j + slot_len = omega arith in
+    let size : slot_start count - slot_start j ≡ slot_len * (count - j) = omega arith in
+    rw (to, size)
+
+-- and of the slots from 1 to j moved down
+pub lowered : (ws : List ℕ) (j : ℕ) → copy_within ws (slot_start 1) (slot_start (j + 1)) (slot_start 0) ≡ lower ws level_head_len (slot_len * j)
+unfolding lower
+lowered ws j = let size : slot_start (j + 1) - slot_start 1 ≡ slot_len * j = omega arith in rw size
 
 -- ---- a bucket put in
 
@@ -119,10 +135,11 @@ module _ (j : ℕ) (ws : List ℕ) (b : Bucket) {mid : List ℕ} (stored : mid �
   stored_count = stored-below 0 (omega arith)
 
 -- the upper half stands in the bucket's place, and the lower half is put in before it
-pub split_becomes : {n i j half weight : ℕ} {ws mid ws' : List ℕ} {up : ℕ} → half ≡ (slot ws j).width / 2 → weight ≡ 2 ^ i
+pub split_becomes : {n i j half weight : ℕ} {ws mid ws' : List ℕ} {up : ℕ} → half ≡ (slot ws j).width / 2
     → mid ≡ put_slot ws (slot_start j) (bucket_of ((slot ws j).offset + half) half weight)
-    → Becomes n i j [] (bucket_of (slot ws j).offset half weight ∷ []) mid ws' up → Becomes n i j (slot ws j ∷ []) (halves i (slot ws j)) ws ws' up
-split_becomes {n} {j} {half} {weight} {ws} half_is weight_is stored t =
+    → Becomes n i j [] (bucket_of (slot ws j).offset half weight ∷ []) mid ws' up → weight ≡ 2 ^ i
+    → Becomes n i j (slot ws j ∷ []) (halves i (slot ws j)) ws ws' up
+split_becomes {n} {j} {half} {weight} {ws} half_is stored t weight_is =
     let hi = bucket_of ((slot ws j).offset + half) half weight in
     let count = stored_count j ws hi stored in
     rw (← half_is, ← weight_is)

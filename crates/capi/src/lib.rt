@@ -13,20 +13,14 @@ ghost use Rattle.model.specs.Merge.{Merges};
 ghost use Rattle.model.specs.Ground.{ground};
 ghost use Rattle.capi.specs.Told.{code_of, delivery_of, sum_of, ground_told, place_of, replay_of};
 
-use model::{Answer, Grounded};
-use shape::{Checked, Shape};
-use trace::Found;
-use words::wide;
+use shape::Shape;
 
 // How many words a book of this shape needs; 0 if the shape is outside its limits.
 #[unsafe(no_mangle)]
 pub extern "C" fn litres_words(k: u32, n: u32, m: u32, g: u32) -> usize
     ensures { result ≡ cond (within k n m g) (book_words (shaped k n m g)) 0 }
 {
-    match Shape::new(k, n, m, g) {
-        Checked::Within(shape) => shape.book_len(),
-        Checked::Outside => 0,
-    }
+    Shape::new(k, n, m, g).map_or(0, Shape::book_len)
 }
 
 #[unsafe(no_mangle)]
@@ -55,7 +49,7 @@ pub extern "C" fn litres_delivery(
     ensures { (result, book.new, halvings.new) ≡ delivery_of (perform book.old (Call.Delivery grade stamp volume)) }
 {
     let answer = summary::delivery(book, grade, stamp, volume);
-    *halvings = codes::answer_splits(answer);
+    *halvings = answer.unwrap_or(0);
     codes::answer_number(answer)
 }
 
@@ -65,13 +59,11 @@ pub extern "C" fn litres_query(book: &[u32], grade: u32, window: u32, sum: &mut 
     ensures { (result, sum.new) ≡ sum_of (perform book.now (Call.Query grade window)).reply sum.old }
 {
     match summary::query(book, grade, window) {
-        Answer::Done => 0,
-        Answer::Splits(_) => 0,
-        Answer::Sum(total) => {
+        Ok(total) => {
             *sum = total;
             0
         }
-        Answer::Refused(why) => codes::number(why),
+        Err(why) => codes::number(why),
     }
 }
 
@@ -81,11 +73,11 @@ pub extern "C" fn litres_ground(book: &[u32], grade: u32, window: u32, values: &
     ensures { (result, values.new) ≡ ground_told (ground book.now grade window) values.old }
 {
     match ground::ground(book, grade, window) {
-        Grounded::Given(g) => {
+        Ok(g) => {
             ground::store(g, values);
             0
         }
-        Grounded::Refused(why) => codes::number(why),
+        Err(why) => codes::number(why),
     }
 }
 
@@ -95,12 +87,12 @@ pub extern "C" fn litres_day(trace: &[u32], day: u32, start: &mut usize, length:
     ensures { (result, start.new, length.new) ≡ place_of (day_reply trace.now day) }
 {
     match trace::judge_day(trace, day) {
-        Found::At(pair) => {
-            *start = wide(pair.start);
-            *length = wide(pair.length);
+        Ok(pair) => {
+            *start = pair.start as usize;
+            *length = pair.length as usize;
             0
         }
-        Found::Refused(why) => {
+        Err(why) => {
             *start = 0;
             *length = 0;
             codes::number(why)

@@ -1,12 +1,13 @@
-// The number of a refusal (SPECIFICATION 6.2), the number and the splits of an answer (5.1), and the values of what a ground says of the
-// next finer level (20.2); used by `text`, `replay`, `ground` and `capi`.
+// The number of a refusal (SPECIFICATION 6.2) and of an answer (5.1), and the values of what a ground says of the next finer level (20.2);
+// used by `text`, `replay`, `ground` and `capi`.
 #![tactic(auto)]
 
-ghost use Rattle.std.specs.Prelude.{◌≡◌, get_or};
-ghost use Rattle.model.specs.Reply.{number_of, reply_of};
+ghost use Rattle.std.specs.Prelude.{◌≡◌, [], get_or};
+ghost use Rattle.shape.specs.Limits.{accepted};
+ghost use Rattle.model.specs.Reply.{number_of, reply_by};
 ghost use Rattle.model.specs.Ground.{finer_values};
 
-use model::{Answer, Finer, Refusal};
+use model::{Finer, Refusal};
 
 pub fn number(why: Refusal) -> u32
     ensures { result ≡ number_of why }
@@ -32,27 +33,13 @@ pub fn number(why: Refusal) -> u32
     }
 }
 
-// 0 where the call is accepted.
-pub fn answer_number(answer: Answer) -> u32
-    ensures { result ≡ (reply_of answer).number }
+// 0 where the call is accepted, whatever it says then.
+pub fn answer_number<T: Drop>(answer: Result<T, Refusal>) -> u32
+    ensures { result ≡ (reply_by (λ (_ : T). accepted []) answer).number }
 {
     match answer {
-        Answer::Done => 0,
-        Answer::Splits(_) => 0,
-        Answer::Sum(_) => 0,
-        Answer::Refused(why) => number(why),
-    }
-}
-
-// 0 of every answer but that to an accepted delivery.
-pub fn answer_splits(answer: Answer) -> u32
-    ensures { result ≡ (reply_of answer).splits }
-{
-    match answer {
-        Answer::Done => 0,
-        Answer::Splits(splits) => splits,
-        Answer::Sum(_) => 0,
-        Answer::Refused(_) => 0,
+        Ok(_) => 0,
+        Err(why) => number(why),
     }
 }
 

@@ -1,7 +1,7 @@
 // Emptying one grade's block, on its part of the words: the whole block, or the halves that the clock empties.
 #![tactic(auto)]
 
-ghost use Rattle.std.specs.Prelude.{◌≡◌, ◌≤◌, length, replicate};
+ghost use Rattle.std.specs.Prelude.{◌≡◌, ◌≤◌, length};
 ghost use Rattle.shape.specs.Layout.{level_words};
 ghost use Rattle.model.specs.Words.{decode_block, encode_block};
 ghost use Rattle.model.specs.Block.{empty_half, advance};
@@ -17,22 +17,12 @@ use words::power;
 // Where the width of a level's first slot stands.
 const FIRST_WIDTH: usize = LEVEL_HEAD_LEN + 1;
 
-fn zero(words: &mut [u32])
-    ensures { words.new ≡ replicate (length words.old) 0 }
-{
-    let mut at: usize = 0;
-    while at < words.len() {
-        words[at] = 0;
-        at += 1;
-    }
-}
-
 // Writes level i of an empty half.
 fn clear_level(level: &mut [u32], s: Shape, i: u8)
     requires { (length level.old ≡ level_words s) × (2 ≤ s.n) × (s.k ≤ 31) }
     ensures { level.new ≡ empty_words s i }
 {
-    zero(level);
+    level.fill(0);
     if 0 < i {
         level[0] = 1;
         level[FIRST_WIDTH] = power(s.k);
@@ -56,10 +46,8 @@ fn clear_half(block: &mut [u32], s: Shape, parity: u8)
 {
     let at = parity as usize;
     block[at] = 0;
-    let mut i: u8 = 0;
-    while i <= s.last {
+    for i in 0..=s.last {
         clear_at(block, s, parity, i);
-        i += 1;
     }
 }
 

@@ -11,7 +11,6 @@ ghost use Rattle.block.specs.Steps.{LevelIn};
 ghost use Rattle.fill.specs.Fill.{Deliverable, Fills};
 
 use shape::Shape;
-use words::long;
 
 // Inserts into one level, in its place in the block. Returns the number of splits.
 fn insert_at(block: &mut [u32], s: Shape, parity: u8, i: u8, x: u32, v: u64) -> u32
@@ -32,13 +31,11 @@ fn fill(block: &mut [u32], s: Shape, stamp: u32, parity: u8, x: u32, v: u64) -> 
     ensures count { result ≡ deliver_splits s stamp v (decode_block s block.old) }
 {
     let at = parity as usize;
-    let total = long(block[at]) + v;
+    let total = u64::from(block[at]) + v;
     block[at] = total as u32;
     let mut splits: u32 = 0;
-    let mut i: u8 = 0;
-    while i <= s.last {
+    for i in 0..=s.last {
         splits += insert_at(block, s, parity, i, x, v);
-        i += 1;
     }
     splits
 }
@@ -51,5 +48,5 @@ pub fn deliver_block(block: &mut [u32], s: Shape, stamp: u32, v: u32) -> u32
 {
     let parity = stamp::parity(stamp::interval(s, stamp));
     let x = stamp::offset(s, stamp);
-    fill(block, s, stamp, parity, x, long(v))
+    fill(block, s, stamp, parity, x, u64::from(v))
 }

@@ -2,6 +2,7 @@
 #![tactic(auto)]
 
 ghost use Rattle.std.specs.Prelude.{◌≡◌, ◌≤◌, ◌<◌, length};
+ghost use Rattle.shape.specs.Limits.{accepted};
 ghost use Rattle.model.specs.Words.{decode_half, decode_block};
 ghost use Rattle.model.specs.Ground.{error_limit, finer_than, ground_of, ground_reply, ground_values, ground};
 ghost use Rattle.model.specs.declared.Call.TheVariants as Call;
@@ -13,7 +14,7 @@ ghost use Rattle.judge.specs.Judge.{Open};
 use block::{finest, level_at, window_sum};
 use book::{Opened, block_at};
 use judge::judge_query;
-use model::{Finer, Ground, Grounded};
+use model::{Finer, Ground, Refusal};
 use shape::Shape;
 use stamp::{interval, offset, opening, parity};
 
@@ -76,21 +77,24 @@ fn block_ground(block: &[u32], s: Shape, clock: u32, window: u32) -> Ground
 }
 
 // The ground of a question that is not refused: only its block is handed on.
-fn explain(book: &[u32], shape: Shape, clock: u32, grade: u32, window: u32) -> Grounded
-    requires { Open book.now shape clock × (first_refusal book.now (Call.Query grade window) ≡ 0) }
-    ensures { ground_reply result ≡ ground book.now grade window }
+fn explain(book: &[u32], opened: Opened, grade: u32, window: u32) -> Ground
+    requires { Open book.now opened.shape opened.clock × (first_refusal book.now (Call.Query grade window) ≡ 0) }
+    ensures { accepted (ground_values result) ≡ ground book.now grade window }
 {
-    Grounded::Given(block_ground(block_at(book, shape, grade), shape, clock, window))
+    block_ground(
+        block_at(book, opened.shape, grade),
+        opened.shape,
+        opened.clock,
+        window,
+    )
 }
 
 // Refused as a question is.
-pub fn ground(book: &[u32], grade: u32, window: u32) -> Grounded
+pub fn ground(book: &[u32], grade: u32, window: u32) -> Result<Ground, Refusal>
     ensures { ground_reply result ≡ ground book.now grade window }
 {
-    match judge_query(book, grade, window) {
-        Opened::Book { shape, clock } => explain(book, shape, clock, grade, window),
-        Opened::Refused(r) => Grounded::Refused(r),
-    }
+    let opened = judge_query(book, grade, window)?;
+    Ok(explain(book, opened, grade, window))
 }
 
 // Writes the five values of a ground over these words.

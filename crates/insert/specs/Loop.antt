@@ -1,5 +1,5 @@
 -- Insertion as a loop: when a bucket is split, and what a split leaves to do. Rests on `Ready`.
-use Rattle.std.specs.Prelude.{Bool, true, false, ◌&&◌, List, ◌∷◌, ◌++◌, ◌≡◌, ℕ, suc, ◌+◌, ◌*◌, ◌^◌, ◌≤◌, ◌<◌, leb, ltb, length}
+use Rattle.std.specs.Prelude.{Bool, true, false, Option, MatchOption, ◌&&◌, List, ◌∷◌, ◌++◌, ◌≡◌, ℕ, suc, ◌+◌, ◌*◌, ◌^◌, ◌≤◌, ◌<◌, leb, ltb, length}
 use Rattle.std.proofs.Common.{pow-suc, arith, ltb-true, leb-true, leb-false, lt-ltb}
 use Rattle.shape.specs.LimitsLaws.{both}
 use Rattle.model.specs.Level.{Bucket, level_of, evict, insert, insert_splits}
@@ -23,13 +23,18 @@ module _ (i v : ℕ) (b : Bucket) where
   pub has_room : gets_full i v b ≡ false → 1 < b.width → b.weight + v < 2 ^ suc i
   has_room e long = leb-false (2 ^ suc i) (b.weight + v) (rw (lt-ltb 1 b.width long) at e)
 
--- The bucket of slot j was filled with a part of v and split, so its two halves stand in its place. Inserting the rest now is inserting v
--- before, with one split less. The half that spans x takes the rest, or it was evicted and nothing is left to do.
-pub record Continues (n i x v j : ℕ) (ws ws' : List ℕ) (r : Onward) : Type 0 where
-  pub part : (slot ws j).weight + v ≡ 2 ^ suc i + r.rest
+-- What is left of v once the bucket of slot j was filled and split. Inserting it now is inserting v before, with one split less. The half that
+-- spans x takes it, and is narrower.
+pub record Goes (n i x v j : ℕ) (ws ws' : List ℕ) (next : Onward) : Type 0 where
+  pub part : (slot ws j).weight + v ≡ 2 ^ suc i + next.rest
+  pub same : insert n i x next.rest (decode_level ws') ≡ insert n i x v (decode_level ws)
+  pub count : insert_splits n i x v (decode_level ws) ≡ suc (insert_splits n i x next.rest (decode_level ws'))
+  pub narrower : (slot ws' next.slot).width < (slot ws j).width
+  pub ready_next : Ready n i x next.rest next.slot ws'
+
+-- The bucket of slot j was filled with a part of v and split, so its two halves stand in its place. The rest is left to insert, or the half
+-- that spans x was evicted: then all is done, by this one split.
+pub record Continues (n i x v j : ℕ) (ws ws' : List ℕ) (r : Option Onward) : Type 0 where
   pub words : (f : ℕ) (before after : List Bucket) → length before ≡ j → ws ≡ encode_level n (level_of f (before ++ slot ws j ∷ after))
       → ws' ≡ encode_level n (evict n i f (before ++ (halves i (slot ws j) ++ after)))
-  pub same : insert n i x r.rest (decode_level ws') ≡ insert n i x v (decode_level ws)
-  pub count : insert_splits n i x v (decode_level ws) ≡ suc (insert_splits n i x r.rest (decode_level ws'))
-  pub goes_on : r.kept ≡ true → ((slot ws' r.slot).width < (slot ws j).width) × Ready n i x r.rest r.slot ws'
-  pub ends : r.kept ≡ false → (ws' ≡ encode_level n (insert n i x v (decode_level ws))) × (insert_splits n i x r.rest (decode_level ws') ≡ 0)
+  pub onward : MatchOption r ((ws' ≡ encode_level n (insert n i x v (decode_level ws))) × (insert_splits n i x v (decode_level ws) ≡ 1)) (Goes n i x v j ws ws')

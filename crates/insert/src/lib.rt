@@ -12,16 +12,14 @@ ghost use Rattle.insert.specs.Entry.{At};
 
 use buckets::{gain, put_at, split_at};
 use scan::find;
-use shape::{LEVEL_HEAD_LEN, SLOT_LEN, Shape};
-use words::{long, power, wide};
+use shape::Shape;
+use words::{Slot, power, slot_at};
 
-// How an insertion goes on after a split: what is left to insert, the slot of the half that spans the offset, and whether this half was
-// kept. If it was evicted (document 01's 'given up'), the slot means nothing and the rest is ignored.
+// How an insertion goes on after a split: what is left to insert, and the slot of the half that spans the offset.
 #[derive(Clone, Copy)]
 struct Onward {
     rest: u64,
     slot: usize,
-    kept: bool,
 }
 
 // Whether v more make the bucket of slot j full, so that it is split.
@@ -29,44 +27,27 @@ fn gets_full(level: &[u32], i: u8, v: u64, j: usize) -> bool
     requires { (slot_start (j + 1) ≤ length level.now) × (i ≤ 31) × ((slot level.now j).weight + v < 2 ^ 32) }
     ensures { result ≡ gets_full i v (slot level.now j) }
 {
-    let at = LEVEL_HEAD_LEN + SLOT_LEN * j;
-    if level[at + 1] <= 1 {
-        return false;
-    }
-    2 * long(power(i)) <= long(level[at + 2]) + v
+    let b = slot_at(level, j);
+    1 < b.width && 2 * u64::from(power(i)) <= u64::from(b.weight) + v
 }
 
 // The bucket of slot j spans x, and v more make it full. Fills it and splits it (document 01's 'fill, halve'). Returns what is left of v and
-// the slot of the half that spans x, or that this half was evicted.
-fn split(level: &mut [u32], n: usize, i: u8, x: u32, v: u64, j: usize) -> Onward
+// the slot of the half that spans x, or none if this half was evicted (document 01's 'given up').
+fn split(level: &mut [u32], n: usize, i: u8, x: u32, v: u64, j: usize) -> Option<Onward>
     requires { Ready n i x v j level.old × (gets_full i v (slot level.old j) ≡ true) }
     ensures { Continues n i x v j level.old level.new result }
 {
-    let at = LEVEL_HEAD_LEN + SLOT_LEN * j;
-    let rest = long(level[at + 2]) + v - 2 * long(power(i));
-    let half = level[at + 1] / 2;
-    let middle = level[at] + half;
+    let b = slot_at(level, j);
+    let rest = u64::from(b.weight) + v - 2 * u64::from(power(i));
+    let half = b.width / 2;
     let up = split_at(level, n, i, j, half);
-    if middle <= x {
-        return Onward {
-            rest: rest,
-            slot: up,
-            kept: true,
-        };
+    if b.offset + half <= x {
+        return Some(Onward { rest, slot: up });
     }
     if up == 0 {
-        return Onward {
-            rest: rest,
-            slot: up,
-            kept: false,
-        };
+        return None;
     }
-    let lower = up - 1;
-    Onward {
-        rest: rest,
-        slot: lower,
-        kept: true,
-    }
+    Some(Onward { rest, slot: up - 1 })
 }
 
 // Level i from 1: inserts v at offset x into the bucket of slot j, which spans x (document 01's 'pour', bucket by bucket). As long as the
@@ -81,12 +62,11 @@ fn insert_splitting(level: &mut [u32], n: usize, i: u8, x: u32, v: u64, j: usize
     let mut rest = v;
     let mut slot = j;
     let mut splits: u32 = 0;
-    while gets_full(&level[..], i, rest, slot) {
-        let next = split(level, n, i, x, rest, slot);
+    while gets_full(level, i, rest, slot) {
         splits += 1;
-        if !next.kept {
+        let Some(next) = split(level, n, i, x, rest, slot) else {
             return splits;
-        }
+        };
         rest = next.rest;
         slot = next.slot;
     }
@@ -99,10 +79,7 @@ fn is_at(level: &[u32], j: usize, x: u32) -> bool
     requires { (slot_start (get_or level.now 0 0) ≤ length level.now) × (j ≤ get_or level.now 0 0) }
     ensures { At j x level.now result }
 {
-    if wide(level[0]) <= j {
-        return false;
-    }
-    level[LEVEL_HEAD_LEN + SLOT_LEN * j] == x
+    j < level[0] as usize && slot_at(level, j).offset == x
 }
 
 // Level 0: the bucket of offset x gains v; if there is none, one of weight v is made.
@@ -115,7 +92,12 @@ fn insert_single(level: &mut [u32], s: Shape, x: u32, v: u64)
         gain(level, j, v);
         return;
     }
-    put_at(level, s.n as usize, 0, j, x, 1, v as u32);
+    let single = Slot {
+        offset: x,
+        width: 1,
+        weight: v as u32,
+    };
+    put_at(level, s.n as usize, 0, j, single);
 }
 
 // Inserts v decilitres at offset x into level i (document 01's 'pour'). Below F they are ignored. Returns the number of splits (document 02's

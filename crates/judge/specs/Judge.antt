@@ -1,6 +1,6 @@
 -- What judging a call answers: the first of its refusals, or the shape and the clock of the book; and which refusals of each call are left
 -- once the head is known to be sound. Assumes nothing.
-use Rattle.std.specs.Prelude.{Bool, true, false, cond, not, ◌||◌, ◌≡◌, refl, List, ◌++◌, ℕ, ◌+◌, ◌^◌, ◌≤◌, ◌<◌, ltb, eqb, length, drop}
+use Rattle.std.specs.Prelude.{Ok, Err, Bool, true, false, cond, not, ◌||◌, ◌≡◌, refl, List, ◌++◌, ℕ, ◌+◌, ◌^◌, ◌≤◌, ◌<◌, ltb, eqb, length, drop}
 use Rattle.std.proofs.Common.{sym, ◌∙◌, arith, lt-ltb, le-ltb}
 use Rattle.std.proofs.Math.Path.{ap}
 use Rattle.std.proofs.lemmas.Bool.{lt-leb}
@@ -18,9 +18,9 @@ use Rattle.laws.specs.Proper.{Proper, Whole}
 use Rattle.laws.specs.Refusals.{number_of_pos, view_of, opened-accepted, AcceptedQuery, accepted_query}
 use Rattle.model.specs.Claim.{ByCall}
 use Rattle.laws.specs.BookWords.{head_proper, sound_head-clock, length-block_part}
-use Rattle.book.specs.declared.head.Opened.TheVariants.{Book}
-use Rattle.book.specs.Judgement.{opened_number, first_refusal}
-use Rattle.book.specs.Head.{Told}
+use Rattle.book.specs.declared.head.Opened.{Opened}
+use Rattle.book.specs.Judgement.{opened_of, judgement, opened_number, first_refusal}
+use Rattle.book.specs.Head.{Told, told_judgement, judgement_told}
 use Rattle.book.specs.Part.{InBook}
 
 -- a book whose head is sound and whose length is right
@@ -102,6 +102,15 @@ unfolding opened_number
 head_judges ws r h call b =
     ap first_of (begins (book_view ws) call b) ∙ stops (book_view ws) (rest_of (book_view ws) call) (number_of r) (number_of_pos r) h
 
+-- the head's refusal is the call's, and a book that opens is open
+module _ (ws : List ℕ) where
+  pub open_refused : (why : Refusal) → opened_of (Err why) ≡ judgement (opened_number ws) ws → (call : Call) → Begins call
+      → opened_of (Err why) ≡ judgement (first_refusal ws call) ws
+  open_refused why h call b = told_judgement _ _ _ (head_judges ws why (judgement_told _ _ _ h) call b)
+
+  pub opened_open : (o : Opened) → opened_of (Ok o) ≡ judgement (opened_number ws) ws → Open ws o.shape o.clock
+  opened_open o h = let t = judgement_told _ _ (Ok o) h in record { number = t.0; same = t.1; now = t.2 }
+
 module _ (ws : List ℕ) (s : Shape) (clock : ℕ) (o : Open ws s clock) where
   view_is : book_view ws ≡ view_of s clock ws
   unfolding book_view
@@ -167,9 +176,9 @@ module _ {ws : List ℕ} {s : Shape} {clock grade stamp volume : ℕ} (d : Due w
       ∙ rw (lt-ltb grade s.g d.inside, d.fair, le-ltb clock stamp d.come, lt-leb (stamp + 2 ^ s.k) clock d.early)
 
 -- if a call is accepted, the book is open
-pub judges_open : (ws : List ℕ) (s : Shape) (clock : ℕ) (call : Call) → Begins call → Told (first_refusal ws call) ws (Book s clock) → Open ws s clock
+pub judges_open : (ws : List ℕ) (o : Opened) (call : Call) → Begins call → Told (first_refusal ws call) ws (Ok o) → Open ws o.shape o.clock
 unfolding opened_number
-judges_open ws s clock call b j = record {
+judges_open ws o call b j = record {
   number = starts (book_view ws) (rest_of (book_view ws) call) (sym (ap first_of (begins (book_view ws) call b)) ∙ j.0);
   same = j.1;
   now = j.2;

@@ -6,7 +6,6 @@ ghost use Rattle.judge.specs.Judge.{Open, Due};
 
 use book::{Opened, block_full, block_sound};
 use model::Refusal;
-use shape::Shape;
 
 // The largest volume.
 const MAX_VOLUME: u32 = 65535;
@@ -22,47 +21,52 @@ fn is_outside(volume: u32) -> bool
 }
 
 // 11 and 12, by the words of the named block.
-fn judge_room(book: &[u32], s: Shape, clock: u32, grade: u32, stamp: u32, volume: u32) -> Opened
-    requires { Due book.now s clock grade stamp volume }
+fn judge_room(
+    book: &[u32],
+    opened: Opened,
+    grade: u32,
+    stamp: u32,
+    volume: u32,
+) -> Result<Opened, Refusal>
+    requires { Due book.now opened.shape opened.clock grade stamp volume }
     ensures { opened_of result ≡ judgement (first_refusal book.now (Call.Delivery grade stamp volume)) book.now }
 {
-    let sound = block_sound(book, s, grade);
-    let full = block_full(book, s, grade, stamp, volume);
+    let sound = block_sound(book, opened.shape, grade);
+    let full = block_full(book, opened.shape, grade, stamp, volume);
     if !sound {
-        return Opened::Refused(Refusal::Block);
+        return Err(Refusal::Block);
     }
     if full {
-        return Opened::Refused(Refusal::Full);
+        return Err(Refusal::Full);
     }
-    Opened::Book { shape: s, clock }
+    Ok(opened)
 }
 
 // 3, 4, 8 and 9, by the numbers alone. Only then is the block read.
 pub fn judge_delivery_in(
     book: &[u32],
-    s: Shape,
-    clock: u32,
+    opened: Opened,
     grade: u32,
     stamp: u32,
     volume: u32,
-) -> Opened
-    requires { Open book.now s clock }
+) -> Result<Opened, Refusal>
+    requires { Open book.now opened.shape opened.clock }
     ensures { opened_of result ≡ judgement (first_refusal book.now (Call.Delivery grade stamp volume)) book.now }
 {
-    let grades = s.g as u32;
+    let grades = opened.shape.g as u32;
     let known = grade < grades;
     let outside = is_outside(volume);
     if !known {
-        return Opened::Refused(Refusal::Grade);
+        return Err(Refusal::Grade);
     }
     if outside {
-        return Opened::Refused(Refusal::Volume);
+        return Err(Refusal::Volume);
     }
-    if clock < stamp {
-        return Opened::Refused(Refusal::Ahead);
+    if opened.clock < stamp {
+        return Err(Refusal::Ahead);
     }
-    if stamp + words::power(s.k) <= clock {
-        return Opened::Refused(Refusal::Late);
+    if stamp + words::power(opened.shape.k) <= opened.clock {
+        return Err(Refusal::Late);
     }
-    judge_room(book, s, clock, grade, stamp, volume)
+    judge_room(book, opened, grade, stamp, volume)
 }

@@ -11,71 +11,62 @@ ghost use Rattle.judge.specs.Judge.{Open};
 use admit::judge_delivery_in;
 use book::{Opened, all_sound, block_sound, open};
 use model::{MAX_CLOCK, Refusal};
-use shape::Shape;
 
-fn judge_clock_in(book: &[u32], s: Shape, clock: u32, to: u32) -> Opened
-    requires { Open book.now s clock }
+fn judge_clock_in(book: &[u32], opened: Opened, to: u32) -> Result<Opened, Refusal>
+    requires { Open book.now opened.shape opened.clock }
     ensures { opened_of result ≡ judgement (first_refusal book.now (Call.Clock to)) book.now }
 {
     let past = MAX_CLOCK < to;
-    let back = to < clock;
+    let back = to < opened.clock;
     if past {
-        return Opened::Refused(Refusal::Limit);
+        return Err(Refusal::Limit);
     }
     if back {
-        return Opened::Refused(Refusal::Back);
+        return Err(Refusal::Back);
     }
-    if !all_sound(book, s) {
-        return Opened::Refused(Refusal::Block);
+    if !all_sound(book, opened.shape) {
+        return Err(Refusal::Block);
     }
-    Opened::Book { shape: s, clock }
+    Ok(opened)
 }
 
-pub fn judge_clock(book: &[u32], to: u32) -> Opened
+pub fn judge_clock(book: &[u32], to: u32) -> Result<Opened, Refusal>
     ensures { opened_of result ≡ judgement (first_refusal book.now (Call.Clock to)) book.now }
 {
-    match open(book) {
-        Opened::Book { shape, clock } => judge_clock_in(book, shape, clock, to),
-        Opened::Refused(r) => Opened::Refused(r),
-    }
+    let opened = open(book)?;
+    judge_clock_in(book, opened, to)
 }
 
-pub fn judge_delivery(book: &[u32], grade: u32, stamp: u32, volume: u32) -> Opened
+pub fn judge_delivery(book: &[u32], grade: u32, stamp: u32, volume: u32) -> Result<Opened, Refusal>
     ensures { opened_of result ≡ judgement (first_refusal book.now (Call.Delivery grade stamp volume)) book.now }
 {
-    match open(book) {
-        Opened::Book { shape, clock } => judge_delivery_in(
-            book, shape, clock, grade, stamp, volume,
-        ),
-        Opened::Refused(r) => Opened::Refused(r),
-    }
+    let opened = open(book)?;
+    judge_delivery_in(book, opened, grade, stamp, volume)
 }
 
-fn judge_query_in(book: &[u32], s: Shape, clock: u32, grade: u32, window: u32) -> Opened
-    requires { Open book.now s clock }
+fn judge_query_in(book: &[u32], opened: Opened, grade: u32, window: u32) -> Result<Opened, Refusal>
+    requires { Open book.now opened.shape opened.clock }
     ensures { opened_of result ≡ judgement (first_refusal book.now (Call.Query grade window)) book.now }
 {
-    let grades = s.g as u32;
-    let widest = words::power(s.k);
+    let grades = opened.shape.g as u32;
+    let widest = words::power(opened.shape.k);
     let known = grade < grades;
     let wide = widest < window;
     if !known {
-        return Opened::Refused(Refusal::Grade);
+        return Err(Refusal::Grade);
     }
     if wide {
-        return Opened::Refused(Refusal::Window);
+        return Err(Refusal::Window);
     }
-    if !block_sound(book, s, grade) {
-        return Opened::Refused(Refusal::Block);
+    if !block_sound(book, opened.shape, grade) {
+        return Err(Refusal::Block);
     }
-    Opened::Book { shape: s, clock }
+    Ok(opened)
 }
 
-pub fn judge_query(book: &[u32], grade: u32, window: u32) -> Opened
+pub fn judge_query(book: &[u32], grade: u32, window: u32) -> Result<Opened, Refusal>
     ensures { opened_of result ≡ judgement (first_refusal book.now (Call.Query grade window)) book.now }
 {
-    match open(book) {
-        Opened::Book { shape, clock } => judge_query_in(book, shape, clock, grade, window),
-        Opened::Refused(r) => Opened::Refused(r),
-    }
+    let opened = open(book)?;
+    judge_query_in(book, opened, grade, window)
 }

@@ -1,13 +1,12 @@
 -- What a call is lent is within the buffer, and so is what stays lent. Assumes nothing.
-use Rattle.std.specs.Prelude.{Bool, true, false, cond, ◌≡◌, ℕ, min, ◌≤◌, eqb}
+use Rattle.std.specs.Prelude.{Err, Bool, true, false, cond, ◌≡◌, ℕ, min, ◌≤◌, eqb}
 use Rattle.std.proofs.Common.{arith, ne_eqb}
 use Rattle.shape.specs.Limits.{Reply, within, shaped}
 use Rattle.shape.specs.Layout.{book_words}
 use Rattle.model.specs.declared.Call.{Call}
 use Rattle.model.specs.declared.Call.TheVariants.{Make, Clock, Delivery, Query}
 use Rattle.model.specs.declared.Refusal.{Refusal}
-use Rattle.model.specs.declared.Answer.TheVariants.{Refused}
-use Rattle.model.specs.Reply.{number_of, reply_of}
+use Rattle.model.specs.Reply.{number_of, reply_by, reply_of}
 use Rattle.laws.specs.Refusals.{number_of_pos}
 use Rattle.lent.specs.Lent.{lent_to, lent_after}
 
@@ -29,6 +28,6 @@ after_inside all reply before lent b l = go (eqb reply.number 0)
     go false = b
 
 -- after a refused call as much is lent as before it
-pub refused-after : (why : Refusal) (before lent : ℕ) → lent_after (reply_of (Refused why)) before lent ≡ before
-unfolding reply_of
+pub refused-after : (why : Refusal) (before lent : ℕ) → lent_after (reply_of (Err why)) before lent ≡ before
+unfolding reply_by
 refused-after why before lent = rw (ne_eqb (number_of why) 0 (number_of_pos why))

@@ -7,13 +7,13 @@ ghost use Rattle.model.specs.Calls.{outcome_of};
 ghost use Rattle.lent.specs.Lent.{lent_to_make, lent_to, lent_after, perform_on, after_line};
 ghost use Rattle.lent.specs.Said.{after_of};
 
-use model::{Answer, Call};
-use shape::{Checked, Shape};
+use model::{Answer, Call, Refusal};
+use shape::Shape;
 
 // The answer to a line, none if it is unread, and how many words are lent after it.
 #[derive(Clone, Copy)]
 pub struct Answered {
-    pub said: Option<Answer>,
+    pub said: Option<Result<Answer, Refusal>>,
     pub lent: usize,
 }
 
@@ -21,8 +21,8 @@ fn lent_to_make(all: usize, k: u32, n: u32, m: u32, g: u32) -> usize
     ensures { result ≡ lent_to_make all k n m g }
 {
     match Shape::new(k, n, m, g) {
-        Checked::Within(shape) => shape.book_len().min(all),
-        Checked::Outside => all,
+        Some(shape) => shape.book_len().min(all),
+        None => all,
     }
 }
 
@@ -37,7 +37,7 @@ fn lent_to(all: usize, lent: usize, call: Call) -> usize
 }
 
 // A call on the words that it is lent.
-fn perform_on(book: &mut [u32], lent: usize, call: Call) -> Answer
+fn perform_on(book: &mut [u32], lent: usize, call: Call) -> Result<Answer, Refusal>
     requires { lent ≤ length book.old }
     ensures { outcome_of (reply_of result) book.new ≡ perform_on lent book.old call }
 {
@@ -45,13 +45,13 @@ fn perform_on(book: &mut [u32], lent: usize, call: Call) -> Answer
 }
 
 // How many words are lent after a call that was lent `lent`. A refused call changes nothing.
-#[tactic(auto, using(laws::specs::Refusals::number_of_pos), unfolding(model::specs::Reply::reply_of))]
-fn lent_after(answer: Answer, before: usize, lent: usize) -> usize
+#[tactic(auto, using(laws::specs::Refusals::number_of_pos), unfolding(model::specs::Reply::reply_by))]
+fn lent_after(answer: Result<Answer, Refusal>, before: usize, lent: usize) -> usize
     ensures { result ≡ lent_after (reply_of answer) before lent }
 {
     match answer {
-        Answer::Done | Answer::Splits(_) | Answer::Sum(_) => lent,
-        Answer::Refused(_) => before,
+        Ok(_) => lent,
+        Err(_) => before,
     }
 }
 

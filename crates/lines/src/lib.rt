@@ -16,7 +16,7 @@ pub struct Line {
 }
 
 impl Line {
-    // The line before its first byte.
+    // The line before its first byte. No `Default`: that would not say which state it is.
     #[tactic(auto, unfolding(crate::specs::Bytes::started))]
     pub fn start() -> Self
         ensures { result ≡ started }

@@ -1,19 +1,18 @@
 -- SPECIFICATION 20, the ground of a sum: the level used, F of the next finer level, the limit of error. Assumes nothing.
-use Rattle.std.specs.Prelude.{true, cond, List, [], ◌∷◌, ◌≡◌, ℕ, ◌+◌, ◌-◌, ◌*◌, ◌^◌, ◌≤◌, ◌<◌, eqb, length, get_or}
+use Rattle.std.specs.Prelude.{Result, true, cond, List, [], ◌∷◌, ◌≡◌, ℕ, ◌+◌, ◌-◌, ◌*◌, ◌^◌, ◌≤◌, ◌<◌, eqb, length, get_or}
 use Rattle.shape.specs.declared.Shape.{Shape}
-use Rattle.shape.specs.Limits.{Reply, refused, accepted}
+use Rattle.shape.specs.Limits.{Reply, accepted}
 use Rattle.model.specs.declared.Call.TheVariants.{Query}
 use Rattle.model.specs.declared.Finer.{Finer}
 use Rattle.model.specs.declared.Finer.TheVariants.{WindowZero, LevelZero, First}
 use Rattle.model.specs.declared.Ground.{Ground}
-use Rattle.model.specs.declared.Grounded.{Grounded}
-use Rattle.model.specs.declared.Grounded.TheVariants.{Given, Refused}
+use Rattle.model.specs.declared.Refusal.{Refusal}
 use Rattle.model.specs.Level.{Level, level_of}
 use Rattle.model.specs.Block.{Block, interval, offset_of, opening, half_of, serving, serving_index, window_sum}
 use Rattle.model.specs.Words.{shape_of, clock_of}
 use Rattle.model.specs.Sound.{sound_book}
 use Rattle.model.specs.Calls.{answered, refusals, book_view, block_at}
-use Rattle.model.specs.Reply.{number_of}
+use Rattle.model.specs.Reply.{reply_by}
 
 abbrev pub first_at : List Level → ℕ → ℕ  -- SPECIFICATION 20.1: F of level i
 first_at levels i = (get_or levels i (level_of 0 [])).first
@@ -46,9 +45,8 @@ finer_values (First first) = 2 ∷ first ∷ []
 abbrev pub ground_values : Ground → List ℕ  -- SPECIFICATION 20.2: the five values of a ground
 ground_values g = g.sum ∷ g.level ∷ g.limit ∷ finer_values g.finer
 
-unfoldable pub ground_reply : Grounded → Reply  -- SPECIFICATION 20.2: the number and the values of each case of the code's answer
-ground_reply (Given g) = accepted (ground_values g)
-ground_reply (Refused r) = refused (number_of r)
+abbrev pub ground_reply : Result Ground Refusal → Reply  -- SPECIFICATION 20.2: the number, and the values of a ground that is given
+ground_reply = reply_by (λ g. accepted (ground_values g))
 
 abbrev pub ground_at : List ℕ → ℕ → ℕ → Ground  -- SPECIFICATION 20.2: the ground by what a book's words say
 ground_at ws grade window = ground_of (shape_of ws) (clock_of ws) window (block_at ws grade)

@@ -1,5 +1,5 @@
 // A call with its numbers, which may be any; why a call, finding a day, a replay or a merge is refused (SPECIFICATION 6.2, in the order of the
-// numbers 1 to 17); the answer to a call; the ground of a sum (SPECIFICATION 20); and a record of a trace (SPECIFICATION 16.2).
+// numbers 1 to 17); the answer to an accepted call; the ground of a sum (SPECIFICATION 20); and a record of a trace (SPECIFICATION 16.2).
 #![tactic(auto)]
 
 #[derive(Clone, Copy)]
@@ -31,12 +31,12 @@ pub enum Refusal {
     Output, // The output is not as long as the two days together.
 }
 
+// What an accepted call answers.
 #[derive(Clone, Copy)]
 pub enum Answer {
-    Done, // A make, a clock, a replay or a merge.
+    Done, // A make or a clock.
     Splits(u32), // A delivery: how many buckets it split.
     Sum(u64), // A question.
-    Refused(Refusal),
 }
 
 // F of the next finer level, or why it is not told.
@@ -54,12 +54,6 @@ pub struct Ground {
     pub level: u8,
     pub limit: u64,
     pub finer: Finer,
-}
-
-#[derive(Clone, Copy)]
-pub enum Grounded {
-    Given(Ground),
-    Refused(Refusal),
 }
 
 // A record's kind and its call's numbers; the rest is zero.

@@ -10,7 +10,8 @@ use model::Call;
 
 const SPACE: u8 = b' ';
 
-// A space after a number. No call has more than four numbers.
+// A space after a number. No call has more than four numbers. Letter, numbers and value stand apart here and below, as in their case of `State`:
+// the match on it takes them apart, and a struct around them would be no plainer.
 fn space(letter: u8, kept: Numbers, value: u32) -> State
     ensures { result ≡ spaced letter kept value }
 {

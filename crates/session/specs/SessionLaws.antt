@@ -1,10 +1,11 @@
 -- What the parts of the code give is what the definitions say. Assumes nothing.
-use Rattle.std.specs.Prelude.{Option, Some, None, unwrap_or, true, false, List, ◌++◌, ◌≡◌, ℕ, ◌+◌, ◌-◌, ◌≤◌, length, take, drop}
+use Rattle.std.specs.Prelude.{Option, Result, Some, None, unwrap_or, true, false, List, ◌++◌, ◌≡◌, ℕ, ◌+◌, ◌-◌, ◌≤◌, length, take, drop}
 use Rattle.std.proofs.Common.{append_assoc, sym, ap, ◌∙◌, arith, le-ltb, eq-eqb, ne_eqb, length-drop, length-take-le}
 use Rattle.std.proofs.lemmas.List.{length-replicate}
 use Rattle.std.proofs.Math.Seq.{take-append-add, take-append_seam}
 use Rattle.model.specs.declared.Call.{Call}
 use Rattle.model.specs.declared.Answer.{Answer}
+use Rattle.model.specs.declared.Refusal.{Refusal}
 use Rattle.grammar.specs.Grammar.{reading_of}
 use Rattle.lines.specs.declared.Line.{Line}
 use Rattle.lines.specs.Bytes.{started, stepped, finished}
@@ -29,7 +30,7 @@ pub start-initial : (words out : List ℕ) → words ≡ zero_buffer
 unfolding initial
 start-initial words out w = rw (w, zero-length)
 
-pub said_short : (s : Option Answer) → length (said_text s) ≤ 32
+pub said_short : (s : Option (Result Answer Refusal)) → length (said_text s) ≤ 32
 unfolding said_text
 said_short (Some a) = text_short (reply_of a)
 said_short None = unread_short

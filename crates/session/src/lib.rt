@@ -9,21 +9,23 @@ ghost use Rattle.session.specs.Protocol.{zero_buffer};
 ghost use Rattle.session.specs.Session.{initial, end_line, feed_byte, end_input, written_out, bench_of};
 
 use lines::Line;
-use model::Answer;
+use model::{Answer, Refusal};
 
-// The state between two bytes of the input. The buffer of words and the bytes of the output are lent beside it.
+// The state between two bytes of the input. The buffer of words and the bytes of the output are lent beside it and not in it, since the clauses
+// `bench` of `begin`, `feed` and `end_input`, which stay, take them apart.
 #[derive(Clone, Copy)]
 pub struct Session {
     // The line as far as it has been read, none if it has no byte yet.
     line: Option<Line>,
     // How many words a call is lent.
     lent: usize,
-    // How many bytes at the front of the output wait to be written. The bytes after them are left open.
+    // How many bytes at the front of the output wait to be written. The bytes after them are left open. A length beside a lent buffer, and no
+    // Vec: the memory is fixed.
     pub used: usize,
 }
 
 // Writes the line of an answer to the front of the buffer. Returns its length.
-fn spell(said: Option<Answer>, out: &mut [u8]) -> usize
+fn spell(said: Option<Result<Answer, Refusal>>, out: &mut [u8]) -> usize
     ensures value { result ≡ written (said_text said) out.old }
     ensures out_after { out.new ≡ stored (said_text said) out.old }
 {
@@ -34,7 +36,7 @@ fn spell(said: Option<Answer>, out: &mut [u8]) -> usize
 }
 
 // Writes the line of an answer after the bytes that wait. Returns how many wait then.
-fn append(out: &mut [u8], used: usize, said: Option<Answer>) -> usize
+fn append(out: &mut [u8], used: usize, said: Option<Result<Answer, Refusal>>) -> usize
     requires { used + 32 ≤ length out.old }
     ensures out_after { take result out.new ≡ take used out.old ++ said_text said }
     ensures bounds { result ≤ used + 32 }

@@ -1,8 +1,6 @@
 -- The limits of a shape (SPECIFICATION 2.2), what the constructor of a shape answers, and replies (SPECIFICATION 5.1). Assumes nothing.
-use Rattle.std.specs.Prelude.{Bool, cond, ◌&&◌, List, [], ◌∷◌, ℕ, leb, eqb}
+use Rattle.std.specs.Prelude.{Option, Some, None, Bool, cond, ◌&&◌, List, [], ◌∷◌, ℕ, leb, eqb}
 use Rattle.shape.specs.declared.Shape.{Shape}
-use Rattle.shape.specs.declared.Checked.{Checked}
-use Rattle.shape.specs.declared.Checked.TheVariants.{Within, Outside}
 
 -- SPECIFICATION 5.1, a reply: the number of the refusal, 0 where accepted, the values that come with it, and how many buckets were split
 pub record Reply : Type 0 where
@@ -51,6 +49,6 @@ unfoldable pub checked : ℕ → ℕ → ℕ → ℕ → Reply
 checked k n m g = cond (within k n m g) (accepted (values_of (shaped k n m g))) (refused 1)
 
 -- SPECIFICATION 5.1: the number and the values of each case of the constructor's answer
-unfoldable pub reply_of : Checked → Reply
-reply_of (Within s) = accepted (values_of s)
-reply_of Outside = refused 1
+unfoldable pub reply_of : Option Shape → Reply
+reply_of (Some s) = accepted (values_of s)
+reply_of None = refused 1

@@ -1,10 +1,9 @@
 -- What it means to pass the tests of the limits. Assumes nothing.
-use Rattle.std.specs.Prelude.{Bool, ◌&&◌, List, ℕ, ◌≤◌, get_or}
+use Rattle.std.specs.Prelude.{Some, None, Bool, ◌&&◌, List, ℕ, ◌≤◌, get_or}
 use Rattle.std.proofs.Math.Bool.{true, false}
 use Rattle.std.proofs.Math.Path.{◌≡◌, refl, ap}
 use Rattle.std.proofs.Common.{arith, leb-true}
 use Rattle.shape.specs.declared.Shape.{Shape}
-use Rattle.shape.specs.declared.Checked.TheVariants.{Within, Outside}
 use Rattle.shape.specs.Limits.{Reply, between, within, shaped, checked, reply_of}
 
 -- both parts of a conjunction hold if it does
@@ -50,7 +49,7 @@ abbrev pub shape_in : List ℕ → Shape
 shape_in vs = record { k = get_or vs 0 0; n = get_or vs 1 0; m = get_or vs 2 0; g = get_or vs 3 0; last = get_or vs 4 0 }
 
 module _ (k n m g : ℕ) where
-  pub checked-within : (s : Shape) → reply_of (Within s) ≡ checked k n m g → (within k n m g ≡ true) × (s ≡ shaped k n m g)
+  pub checked-within : (s : Shape) → reply_of (Some s) ≡ checked k n m g → (within k n m g ≡ true) × (s ≡ shaped k n m g)
   unfolding reply_of checked
   checked-within s e = go (within k n m g) refl
     where
@@ -58,7 +57,7 @@ module _ (k n m g : ℕ) where
       go true h = (h, ap (λ (r : Reply). shape_in r.values) (rw h at e))
       go false h = let none : ◌≡◌ {A = ℕ} 0 1 = ap (λ (r : Reply). r.number) (rw h at e) in absurd (omega arith)
 
-  pub checked_outside : reply_of Outside ≡ checked k n m g → within k n m g ≡ false
+  pub checked_outside : reply_of None ≡ checked k n m g → within k n m g ≡ false
   unfolding reply_of checked
   checked_outside e = go (within k n m g) refl
     where

@@ -33,13 +33,6 @@ pub struct Shape {
     pub last: u8,
 }
 
-// What the constructor answers.
-#[derive(Clone, Copy)]
-pub enum Checked {
-    Within(Shape),
-    Outside,
-}
-
 // Whether a number lies between two limits, both included.
 fn is_between(low: u32, x: u32, high: u32) -> bool
     ensures { result ≡ between low x high }
@@ -67,22 +60,23 @@ impl Shape {
 
     pub const G_MAX: u32 = 8;
 
-    pub fn new(k: u32, n: u32, m: u32, g: u32) -> Checked
+    // The shape of these numbers, or none if one is outside its limits.
+    pub fn new(k: u32, n: u32, m: u32, g: u32) -> Option<Shape>
         ensures { reply_of result ≡ checked k n m g }
     {
         if !is_between(Self::K_MIN, k, Self::K_MAX) {
-            return Checked::Outside;
+            return None;
         }
         if !is_between(Self::N_MIN, n, Self::N_MAX) {
-            return Checked::Outside;
+            return None;
         }
         if !is_between(Self::M_MIN, m, Self::M_MAX) {
-            return Checked::Outside;
+            return None;
         }
         if !is_between(Self::G_MIN, g, Self::G_MAX) {
-            return Checked::Outside;
+            return None;
         }
-        Checked::Within(Shape {
+        Some(Shape {
             k: k as u8,
             n: n as u16,
             m: m as u8,

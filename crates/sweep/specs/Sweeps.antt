@@ -1,5 +1,6 @@
 -- What the loops over the grades require and leave. Rests on the laws of a swept book.
 use Rattle.std.specs.Prelude.{true, ◌≡◌, List, ℕ, ◌<◌, length}
+use Rattle.std.specs.Borrow.{MutBor}
 use Rattle.shape.specs.declared.Shape.{Shape}
 use Rattle.shape.specs.Layout.{book_words, block_words}
 use Rattle.model.specs.Block.{empty_half, advance}
@@ -14,6 +15,15 @@ pub record AllSound (s : Shape) (ws : List ℕ) : Type 0 where
   pub proper : Proper s
   pub size : length ws ≡ book_words s
   pub sound : (grade : ℕ) → grade < s.g → sound_block s (block_part s grade ws) ≡ true
+
+-- a step, whose `pre` this is, may be called at each block of a book
+abbrev pub IsCallableAtBlocks : (MutBor (List ℕ) → Type 0) → Shape → List ℕ → Type 0
+IsCallableAtBlocks pre s ws = (grade : ℕ) → grade < s.g → (block : MutBor (List ℕ)) → block.now ≡ block_part s grade ws → pre block
+
+-- a step, whose `post` this is, leaves f of a block in its place, and f keeps the length of the book's blocks
+pub record Rewrites (post : MutBor (List ℕ) → Unit {0} → MutBor (List ℕ) → Type 0) (s : Shape) (ws : List ℕ) (f : List ℕ → List ℕ) : Type 0 where
+  pub leaves : (block after : MutBor (List ℕ)) → post block tt after → after.now ≡ f block.now
+  pub sized : (grade : ℕ) → grade < s.g → length (f (block_part s grade ws)) ≡ block_words s
 
 -- the words of an empty block
 abbrev pub cleared : Shape → ℕ → List ℕ

@@ -26,9 +26,9 @@ pub fn write_head(book: &mut [u32], shape: Shape, clock: u32)
     requires { head_len ≤ length book.old }
     ensures { book.new ≡ encode_head shape clock ++ drop head_len book.old }
 {
-    let k = shape.k as u32;
-    let n = shape.n as u32;
-    let m = shape.m as u32;
-    let g = shape.g as u32;
+    let k = u32::from(shape.k);
+    let n = u32::from(shape.n);
+    let m = u32::from(shape.m);
+    let g = u32::from(shape.g);
     store_head(book, k, n, m, g, clock);
 }

@@ -3,25 +3,28 @@
 
 mod head;
 
-ghost use Rattle.std.specs.Prelude.{◌≡◌, ◌++◌, length, take, true};
+ghost use Rattle.std.specs.Prelude.{◌≡◌, ◌++◌, length, take};
 ghost use Rattle.shape.specs.Layout.{head_len, book_words};
 ghost use Rattle.model.specs.Block.{up_from};
-ghost use Rattle.model.specs.Words.{block_part, with_block, join};
-ghost use Rattle.model.specs.Sound.{sound_block};
+ghost use Rattle.model.specs.Words.{block_part, join};
 ghost use Rattle.laws.specs.Proper.{Proper};
-ghost use Rattle.book.specs.Part.{InBook};
-ghost use Rattle.sweep.specs.Sweeps.{AllSound, cleared, advanced};
+ghost use Rattle.sweep.specs.Sweeps.{AllSound, IsCallableAtBlocks, Rewrites, cleared, advanced};
 
 pub use head::write_head;
 use shape::Shape;
 
-fn clear_block(book: &mut [u32], s: Shape, grade: u32)
-    requires { InBook s grade book.old }
-    ensures { book.new ≡ with_block s grade (cleared s grade) book.old }
+// Hands every block, from grade 0 on, to a step that rewrites it.
+fn rewrite_blocks<F: Fn(&mut [u32])>(book: &mut [u32], s: Shape, rewrite: F)
+    requires size { length book.old ≡ book_words s }
+    requires callable { IsCallableAtBlocks (F.pre rewrite) s book.old }
+    requires rewrites { (f : _) × Rewrites (F.post rewrite) s book.old f }
+    ensures { (f : _) → Rewrites (F.post rewrite) s book.old f → book.new ≡ take head_len book.old ++ join (up_from (λ grade. f (block_part s grade book.old)) 0 s.g) }
 {
-    let a = s.block_start(grade);
-    let e = a + s.block_len();
-    erase::clear(&mut book[a..e], s);
+    for grade in 0..u32::from(s.g) {
+        let a = s.block_start(grade);
+        let e = a + s.block_len();
+        rewrite(&mut book[a..e]);
+    }
 }
 
 // Empties every block. The words may be any.
@@ -29,21 +32,7 @@ pub fn clear_blocks(book: &mut [u32], s: Shape)
     requires { (length book.old ≡ book_words s) × Proper s }
     ensures { book.new ≡ take head_len book.old ++ join (up_from (cleared s) 0 s.g) }
 {
-    let count = s.g as u32;
-    let mut grade: u32 = 0;
-    while grade < count {
-        clear_block(book, s, grade);
-        grade += 1;
-    }
-}
-
-fn advance_block(book: &mut [u32], s: Shape, grade: u32, old: u32, new: u32)
-    requires { InBook s grade book.old × (sound_block s (block_part s grade book.old) ≡ true) }
-    ensures { book.new ≡ with_block s grade (advanced s old new book.old grade) book.old }
-{
-    let a = s.block_start(grade);
-    let e = a + s.block_len();
-    erase::advance(&mut book[a..e], s, old, new);
+    rewrite_blocks(book, s, |block| erase::clear(block, s));
 }
 
 // Empties in every block the halves that the clock empties.
@@ -51,10 +40,5 @@ pub fn advance_blocks(book: &mut [u32], s: Shape, old: u32, new: u32)
     requires { AllSound s book.old }
     ensures { book.new ≡ take head_len book.old ++ join (up_from (advanced s old new book.old) 0 s.g) }
 {
-    let count = s.g as u32;
-    let mut grade: u32 = 0;
-    while grade < count {
-        advance_block(book, s, grade, old, new);
-        grade += 1;
-    }
+    rewrite_blocks(book, s, |block| erase::advance(block, s, old, new));
 }

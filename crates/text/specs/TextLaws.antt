@@ -1,5 +1,5 @@
 -- Digits and texts: how long they are, how they are stored, and that the digits of a number have its value. Assumes nothing.
-use Rattle.std.specs.Prelude.{Bool, true, false, not, cond, List, [], ◌∷◌, ◌++◌, ◌≡◌, refl, ℕ, zero, suc, ◌+◌, ◌*◌, ◌-◌, ◌/◌, ◌%◌, ◌^◌, ◌≤◌, ◌<◌, eqb, set}
+use Rattle.std.specs.Prelude.{Err, Bool, true, false, not, cond, List, [], ◌∷◌, ◌++◌, ◌≡◌, refl, ℕ, zero, suc, ◌+◌, ◌*◌, ◌-◌, ◌/◌, ◌%◌, ◌^◌, ◌≤◌, ◌<◌, eqb, set}
 use Rattle.std.proofs.Math.Path.{sym}
 use Rattle.std.proofs.Common.{ap, ◌∙◌, add-zero, zero-add, pow-suc, arith, lt-ltb, le-ltb, le-leb, ne_eqb}
 use Rattle.std.proofs.Math.Nat.{div-add-mod}
@@ -9,8 +9,7 @@ use Rattle.std.proofs.lemmas.Fmt.{decimal_digit, decimal_step}
 use Rattle.std.specs.Fmt as Fmt
 use Rattle.shape.specs.Limits.{Reply}
 use Rattle.shape.specs.LimitsLaws.{both}
-use Rattle.model.specs.Reply.{number_of, reply_of}
-use Rattle.model.specs.declared.Answer.TheVariants.{Refused}
+use Rattle.model.specs.Reply.{number_of, reply_by, reply_of}
 use Rattle.model.specs.declared.Refusal.{Refusal}
 use Rattle.model.specs.declared.Refusal.TheVariants.{Shape, Length, Grade, Volume, Window, Limit, Head, Ahead, Late, Back, Block, Full, Trace, Day, Room, Order, Output}
 use Rattle.laws.specs.Cond.{by_lt, and-true}
@@ -97,8 +96,8 @@ unfolding written
 written_short text out e h = rw e (by_lt (length out) 32 (λ (n : ℕ). n ≤ 32) (λ short. omega arith) (λ room. h))
 
 -- the text of every refusal has its number
-pub refused_text : (why : Refusal) → text_of (reply_of (Refused why)) ≡ numbered refused_word (number_of why)
-unfolding text_of reply_of
+pub refused_text : (why : Refusal) → text_of (reply_of (Err why)) ≡ numbered refused_word (number_of why)
+unfolding text_of reply_by
 refused_text Shape = refl
 refused_text Length = refl
 refused_text Grade = refl

@@ -3,7 +3,7 @@
 
 ghost use Rattle.std.specs.Prelude.{◌≡◌, ◌+◌, ◌≤◌, length};
 ghost use Rattle.std.proofs.lemmas.List.Edits.{sets};
-ghost use Rattle.model.specs.Reply.{number_of, reply_of};
+ghost use Rattle.model.specs.Reply.{reply_of};
 ghost use Rattle.text.specs.Text.{numbered, text_of, unread_text, written, stored};
 
 use itoa::Buffer;
@@ -31,15 +31,9 @@ fn line_of(word: &[u8], x: u64, out: &mut [u8]) -> usize
     copy(b"\n", out, end)
 }
 
-fn number(why: Refusal) -> u64
-    ensures { result ≡ number_of why }
-{
-    u64::from(codes::number(why))
-}
-
 // Writes the line of an answer to the front of the buffer. Returns its length. If the buffer is shorter than 32 bytes, it writes nothing and
 // returns 0.
-pub fn answer(a: Answer, out: &mut [u8]) -> usize
+pub fn answer(a: Result<Answer, Refusal>, out: &mut [u8]) -> usize
     ensures value { result ≡ written (text_of (reply_of a)) out.old }
     ensures out_after { out.new ≡ stored (text_of (reply_of a)) out.old }
 {
@@ -47,14 +41,14 @@ pub fn answer(a: Answer, out: &mut [u8]) -> usize
         return 0;
     }
     match a {
-        Answer::Done => copy(b"ok\n", out, 0),
-        Answer::Splits(_) => copy(b"ok\n", out, 0),
-        Answer::Sum(sum) => line_of(b"= ", sum, out),
-        Answer::Refused(why) => line_of(b"refused ", number(why), out),
+        Ok(Answer::Done) => copy(b"ok\n", out, 0),
+        Ok(Answer::Splits(_)) => copy(b"ok\n", out, 0),
+        Ok(Answer::Sum(sum)) => line_of(b"= ", sum, out),
+        Err(why) => line_of(b"refused ", u64::from(codes::number(why)), out),
     }
 }
 
-// The same for a line that is unread.
+// The same for a line that is unread. It tests the length itself, since one function for both would only put the test before a match.
 pub fn unread(out: &mut [u8]) -> usize
     ensures value { result ≡ written unread_text out.old }
     ensures out_after { out.new ≡ stored unread_text out.old }

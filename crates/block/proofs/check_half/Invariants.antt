@@ -6,6 +6,3 @@ use Rattle.block.proofs.check_half.Given as goal
 
 abbrev pub invariant-loop-level : goal.invariant-loop-level
 invariant-loop-level l = sound_from l.s l.parity l.block l.level ≡ sound_half l.s l.parity l.block
-
-abbrev pub decreases-loop-level : goal.decreases-loop-level
-decreases-loop-level l = suc l.s.last - l.level

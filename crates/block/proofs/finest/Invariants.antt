@@ -8,6 +8,3 @@ use Rattle.block.proofs.finest.Given as goal
 abbrev pub invariant-loop-finest : goal.invariant-loop-finest
 invariant-loop-finest l =
     (l.finest ≤ l.s.last) × (l.finest + serving_index l.a (levels_from l.s l.parity l.block l.finest) ≡ serving_index l.a (decode_half l.s l.parity l.block).levels)
-
-abbrev pub decreases-loop-finest : goal.decreases-loop-finest
-decreases-loop-finest l = l.s.last - l.finest

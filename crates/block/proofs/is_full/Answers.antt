@@ -10,9 +10,9 @@ pub total-total-requires : goal.total-total-requires
 total-total-requires c = omega (arith, block_words-halves c.args.s, c.requires.size)
 
 pub overflow_add-result : goal.overflow_add-result
-overflow_add-result c = omega (arith, c.total-total.ensures, c.shared_slice_known-1.given (c.interval.result % 2))
+overflow_add-result c = omega (arith, c.total-total.ensures, c.type_inv.block (c.interval.result % 2))
 
 pub returns : goal.returns
 returns c =
     let a = c.args in
-    rw (total_decode a.s (interval a.s a.stamp) a.block.now, ← c.interval.ensures, ← c.total-total.ensures, ← c.capacity.ensures)
+    rw (total_decode a.s (interval a.s a.stamp) a.block.now, ← c.interval.ensures, ← c.total-total.ensures, c.from.ensures, ← c.capacity.ensures)

@@ -6,7 +6,7 @@ use Rattle.buckets.proofs.put_at.Goals as goal
 
 pub returns-then-count-n : goal.returns-then-count-n
 returns-then-count-n c =
-    rw (c.put_in.ensures, c.wide-count.ensures) (put_in_room c.requires.0 c.args.i _ (omega arith))
+    rw c.put_in.ensures (put_in_room c.requires.0 c.args.i _ (omega arith))
 
 pub returns-then-j-eq0 : goal.returns-then-j-eq0
 returns-then-j-eq0 c =

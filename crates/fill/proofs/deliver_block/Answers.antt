@@ -5,7 +5,7 @@ use Rattle.fill.proofs.deliver_block.Goals as goal
 
 pub fill-requires : goal.fill-requires
 fill-requires c =
-    rw c.long.ensures.0
+    rw c.from.ensures
     (record {
       deliverable = c.requires;
       half = c.parity-parity.ensures ∙ ap (λ (j : ℕ). j % 2) c.interval.ensures;
@@ -13,4 +13,4 @@ fill-requires c =
     })
 
 pub returns : goal.returns
-returns c = rw c.long.ensures.0 at c.fill.ensures
+returns c = rw c.from.ensures at c.fill.ensures

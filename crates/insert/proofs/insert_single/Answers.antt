@@ -24,8 +24,8 @@ returns-then-is_at c =
     let at = c.is_at.ensures.yes c.if-is_at.true in
     c.gain.ensures ∙ (gains (found c.requires.0 c.requires.1 c.find-j.ensures) at.0 at.1).1
 
-pub overflow_cast-v : goal.overflow_cast-v
-overflow_cast-v c = omega (arith, total_fits c.requires.0)
+pub overflow_cast-single : goal.overflow_cast-single
+overflow_cast-single c = omega (arith, total_fits c.requires.0)
 
 pub put_at-requires : goal.put_at-requires
 put_at-requires c =

@@ -6,13 +6,13 @@ use Rattle.shape.specs.LimitsLaws.{checked-within, checked_outside}
 use Rattle.shape.specs.Layout.{book_words}
 use Rattle.lent.proofs.lent_to_make.Goals as goal
 
-pub returns-in-Within : goal.returns-in-Within
-returns-in-Within c =
+pub returns-in-Some : goal.returns-in-Some
+returns-in-Some c =
     let a = c.args in
-    let t = checked-within a.k a.n a.m a.g c.in-Within.shape (ap reply_of (sym c.in-Within.is) ∙ c.new.ensures) in
+    let t = checked-within a.k a.n a.m a.g c.in-Some.shape (ap reply_of (sym c.in-Some.is) ∙ c.new.ensures) in
     c.min.ensures ∙ ap (λ (x : ℕ). min x a.all) (c.book_len.ensures ∙ ap book_words t.1) ∙ rw t.0
 
-pub returns-in-Outside : goal.returns-in-Outside
-returns-in-Outside c =
+pub returns-in-None : goal.returns-in-None
+returns-in-None c =
     let a = c.args in
-    rw (checked_outside a.k a.n a.m a.g (ap reply_of (sym c.in-Outside.is) ∙ c.new.ensures))
+    rw (checked_outside a.k a.n a.m a.g (ap reply_of (sym c.in-None.is) ∙ c.new.ensures))

@@ -1,19 +1,21 @@
--- A refused call changes no word; otherwise the book takes the delivery.
-use mathlib.Core.Path.{ap, sym, ◌∙◌}
+-- A refused call changes no word; otherwise the book is open, and the book takes the delivery.
+use Rattle.std.proofs.lemmas.Result.{err_from_is_err_and}
 use Rattle.model.specs.declared.Call.TheVariants.{Delivery}
-use Rattle.book.specs.Judgement.{opened_of}
+use Rattle.model.specs.Reply.{reply_by}
 use Rattle.book.specs.Head.{judgement_told}
-use Rattle.summary.specs.Outcome.{refused_outcome}
+use Rattle.summary.specs.Outcome.{judged_outcome}
 use Rattle.summary.proofs.delivery.Goals as goal
+
+pub returns-in_err-opened : goal.returns-in_err-opened
+returns-in_err-opened c =
+    let p = err_from_is_err_and c.from_residual.result c.from_residual.ensures.1 in
+    rw (p.1, p.2) (judged_outcome c.args.book.now (Delivery c.args.grade c.args.stamp c.args.volume) _ _ c.in_err-opened.ensures)
 
 pub deliver-requires : goal.deliver-requires
 deliver-requires c =
-    let a = c.args in
-    let j = judgement_told _ _ _ (ap opened_of (sym c.in-Book.is) ∙ c.judge_delivery.ensures) in
+    let j = judgement_told _ _ _ c.in_ok-opened.ensures in
     (j.1, j.0)
 
-pub returns-in-Refused : goal.returns-in-Refused
-returns-in-Refused c =
-    let a = c.args in
-    let call = Delivery a.grade a.stamp a.volume in
-    refused_outcome a.book.now call c.in-Refused.r (judgement_told _ _ _ (ap opened_of (sym c.in-Refused.is) ∙ c.judge_delivery.ensures))
+pub returns : goal.returns
+unfolding reply_by
+returns c = c.deliver.ensures

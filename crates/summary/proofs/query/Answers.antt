@@ -1,21 +1,22 @@
--- A refused question answers its number; otherwise the book is open.
-use mathlib.Core.Path.{ap, sym, ◌∙◌}
+-- A refused call changes no word; otherwise the book is open, and its window is summed.
+use Rattle.std.proofs.lemmas.Result.{err_from_is_err_and}
 use Rattle.model.specs.declared.Call.TheVariants.{Query}
-use Rattle.book.specs.Judgement.{opened_of}
+use Rattle.model.specs.Reply.{reply_by}
 use Rattle.book.specs.Head.{judgement_told}
 use Rattle.judge.specs.Judge.{judges_open}
-use Rattle.summary.specs.Outcome.{refused_outcome}
+use Rattle.summary.specs.Outcome.{judged_outcome}
 use Rattle.summary.proofs.query.Goals as goal
+
+pub returns-in_err-opened : goal.returns-in_err-opened
+returns-in_err-opened c =
+    let p = err_from_is_err_and c.from_residual.result c.from_residual.ensures.1 in
+    rw (p.1, p.2) (judged_outcome c.args.book.now (Query c.args.grade c.args.window) _ _ c.in_err-opened.ensures)
 
 pub ask-requires : goal.ask-requires
 ask-requires c =
-    let a = c.args in
-    let call = Query a.grade a.window in
-    let j = judgement_told _ _ _ (ap opened_of (sym c.in-Book.is) ∙ c.judge_query.ensures) in
-    (judges_open a.book.now c.in-Book.shape c.in-Book.clock call tt j, j.0)
+    let j = judgement_told _ _ _ c.in_ok-opened.ensures in
+    (judges_open c.args.book.now c.in_ok-opened.opened (Query c.args.grade c.args.window) tt j, j.0)
 
-pub returns-in-Refused : goal.returns-in-Refused
-returns-in-Refused c =
-    let a = c.args in
-    let call = Query a.grade a.window in
-    refused_outcome a.book.now call c.in-Refused.r (judgement_told _ _ _ (ap opened_of (sym c.in-Refused.is) ∙ c.judge_query.ensures))
+pub returns : goal.returns
+unfolding reply_by
+returns c = c.ask.ensures

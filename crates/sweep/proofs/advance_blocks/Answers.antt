@@ -1,42 +1,27 @@
-use mathlib.Core.Path.{◌≡◌, refl, sym, ◌∙◌}
-use native.Mathlib.Numerals.{add-one}
-use Rattle.laws.specs.BookWrites.{swept_none, swept-part, swept-more, swept_all}
-use Rattle.sweep.specs.Sweeps.{advanced, advanced_size}
-use native.Mathlib.Omega.{arith}
+use Rattle.std.proofs.Common.{rules}
+use Rattle.model.specs.Block.{advance}
+use Rattle.model.specs.Words.{decode_block, encode_block}
+use Rattle.laws.specs.BookWords.{length-block_part}
+use Rattle.laws.specs.Proper.{Whole}
+use Rattle.sweep.specs.Sweeps.{advanced_size}
 use Rattle.sweep.proofs.advance_blocks.Goals as goal
 
-pub loop-grade-init : goal.loop-grade-init
-loop-grade-init c =
-    let a = c.args in
-    (omega arith, refl, sym (swept_none a.s (advanced a.s a.old a.new a.book.now) a.book.now c.requires.size (advanced_size a.s a.old a.new a.book.now c.requires)))
+pub rewrite_blocks-requires-clause-callable : goal.rewrite_blocks-requires-clause-callable
+rewrite_blocks-requires-clause-callable c grade h block e =
+    let s = c.args.s in
+    let b = c.requires in
+    let whole : Whole s block.now = rw e (record { proper = b.proper; size = length-block_part s grade h c.args.book.now b.size; sound = b.sound grade h }) in
+    search rules
 
-pub advance_block-requires : goal.advance_block-requires
-advance_block-requires c =
-    let l = c.loop-grade in
-    let h = c.loop-grade-test.true in
-    let a = c.args in
-    let f = advanced a.s a.old a.new a.book.now in
-    let part = swept-part a.s f a.book.now c.requires.size (advanced_size a.s a.old a.new a.book.now c.requires) l.grade l.invariant.0 in
-    (record { proper = c.requires.proper; size = l.invariant.1 ∙ c.requires.size; inside = h }, rw (l.invariant.2, part) (c.requires.sound l.grade h))
-
-pub loop-grade-preserved : goal.loop-grade-preserved
-loop-grade-preserved c =
-    let l = c.loop-grade in
-    let h = c.loop-grade-test.true in
-    let a = c.args in
-    let f = advanced a.s a.old a.new a.book.now in
-    let sizes = advanced_size a.s a.old a.new a.book.now c.requires in
-    let part = swept-part a.s f a.book.now c.requires.size sizes l.grade l.invariant.0 in (
-      omega arith,
-      c.advance_block.auto.book ∙ l.invariant.1,
-      rw (add-one l.grade) (c.advance_block.ensures
-          ∙ rw (l.invariant.2, part) (swept-more a.s f a.book.now c.requires.size sizes l.grade h)),
+pub rewrite_blocks-requires-clause-rewrites : goal.rewrite_blocks-requires-clause-rewrites
+rewrite_blocks-requires-clause-rewrites c =
+    let a = c.args in (
+      λ ws. encode_block a.s (advance a.s a.old a.new (decode_block a.s ws)),
+      record { leaves = λ block after p. search rules; sized = advanced_size a.s a.old a.new a.book.now c.requires },
     )
 
 pub returns : goal.returns
 returns c =
-    let l = c.loop-grade in
     let a = c.args in
-    let f = advanced a.s a.old a.new a.book.now in
-    let all : l.grade ≡ a.s.g = omega arith in
-    rw all at l.invariant.2 ∙ swept_all a.s f a.book.now c.requires.size (advanced_size a.s a.old a.new a.book.now c.requires)
+    c.rewrite_blocks.ensures (λ ws. encode_block a.s (advance a.s a.old a.new (decode_block a.s ws)))
+    (record { leaves = λ block after p. search rules; sized = advanced_size a.s a.old a.new a.book.now c.requires })

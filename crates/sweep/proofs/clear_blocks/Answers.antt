@@ -1,34 +1,21 @@
-use mathlib.Core.Path.{◌≡◌, refl, sym, ap, ◌∙◌}
-use native.Mathlib.Numerals.{add-one}
-use Rattle.model.specs.Words.{with_block}
-use Rattle.laws.specs.BookWrites.{swept_none, swept-more, swept_all}
+use Rattle.std.proofs.Common.{rules}
+use Rattle.laws.specs.BookWords.{length-block_part}
+use Rattle.laws.specs.Proper.{Sized}
 use Rattle.sweep.specs.Sweeps.{cleared, cleared_size}
-use native.Mathlib.Omega.{arith}
 use Rattle.sweep.proofs.clear_blocks.Goals as goal
 
-pub loop-grade-init : goal.loop-grade-init
-loop-grade-init c =
-    (omega arith, refl, sym (swept_none c.args.s (cleared c.args.s) c.args.book.now c.requires.0 (λ j h. cleared_size c.args.s c.requires.1 j)))
+pub rewrite_blocks-requires-clause-callable : goal.rewrite_blocks-requires-clause-callable
+rewrite_blocks-requires-clause-callable c grade h block e =
+    let s = c.args.s in
+    let sized : Sized s block.now = rw e (record { proper = c.requires.1; size = length-block_part s grade h c.args.book.now c.requires.0 }) in
+    search rules
 
-pub clear_block-requires : goal.clear_block-requires
-clear_block-requires c =
-    let l = c.loop-grade in
-    record { proper = c.requires.1; size = l.invariant.1 ∙ c.requires.0; inside = c.loop-grade-test.true }
-
-pub loop-grade-preserved : goal.loop-grade-preserved
-loop-grade-preserved c =
-    let l = c.loop-grade in
-    let h = c.loop-grade-test.true in
-    let s = c.args.s in (
-      omega arith,
-      c.clear_block.auto.book ∙ l.invariant.1,
-      rw (add-one l.grade) (c.clear_block.ensures ∙ ap (with_block s l.grade (cleared s l.grade)) l.invariant.2
-          ∙ swept-more s (cleared s) c.args.book.now c.requires.0 (λ j q. cleared_size s c.requires.1 j) l.grade h),
-    )
+pub rewrite_blocks-requires-clause-rewrites : goal.rewrite_blocks-requires-clause-rewrites
+rewrite_blocks-requires-clause-rewrites c =
+    let s = c.args.s in
+    (λ _. cleared s 0, record { leaves = λ block after p. search rules; sized = λ grade h. cleared_size s c.requires.1 grade })
 
 pub returns : goal.returns
 returns c =
-    let l = c.loop-grade in
     let s = c.args.s in
-    let all : l.grade ≡ s.g = omega arith in
-    rw all at l.invariant.2 ∙ swept_all s (cleared s) c.args.book.now c.requires.0 (λ j q. cleared_size s c.requires.1 j)
+    c.rewrite_blocks.ensures (λ _. cleared s 0) (record { leaves = λ block after p. search rules; sized = λ grade h. cleared_size s c.requires.1 grade })

@@ -1,6 +1,7 @@
 -- A short buffer is left alone. In any other, each case stores its own text from the front on.
-use Rattle.model.specs.Reply.{reply_of}
-use Rattle.model.specs.declared.Answer.TheVariants.{Done, Sum}
+use Rattle.std.proofs.Common.{Ok, ◌≡◌}
+use Rattle.model.specs.Reply.{reply_by, reply_of}
+use Rattle.model.specs.declared.Answer.TheVariants.{Done, Splits, Sum}
 use Rattle.text.specs.Text.{sum_word, refused_word, numbered, text_of}
 use Rattle.text.specs.TextLaws.{written_none, stored-none, stored-front, numbered_fits, refused_text}
 use native.Mathlib.Omega.{arith}
@@ -9,27 +10,31 @@ use Rattle.text.proofs.answer.Goals as goal
 pub returns-then-out-lt32 : goal.returns-then-out-lt32
 returns-then-out-lt32 c = record { value = written_none _ _ c.if-out-lt32.true; out_after = stored-none _ _ c.if-out-lt32.true }
 
-pub returns-in-Done : goal.returns-in-Done
-unfolding text_of reply_of
-returns-in-Done c =
-    rw c.in-Done.is
-    (let p = stored-front (text_of (reply_of Done)) c.args.out.now c.if-out-lt32.false (omega arith) (c.copy.ensures.value, c.copy.ensures.out_after) in record { value = p.0; out_after = p.1 })
+pub returns-in-Ok-Done : goal.returns-in-Ok-Done
+unfolding text_of reply_by
+returns-in-Ok-Done c =
+    let is-Done : c.in-Ok-Done.field-0 ≡ Done = rw c.in-Ok-Done.is at c.in-Ok-Done.field-0-is in
+    rw (c.in-Ok-Done.is, is-Done)
+    (let p = stored-front (text_of (reply_of (Ok Done))) c.args.out.now c.if-out-lt32.false (omega arith) (c.copy.ensures.value, c.copy.ensures.out_after) in record { value = p.0; out_after = p.1 })
 
-pub returns-in-Splits : goal.returns-in-Splits
-unfolding text_of reply_of
-returns-in-Splits c =
-    rw c.in-Splits.is
-    (let p = stored-front (text_of (reply_of Done)) c.args.out.now c.if-out-lt32.false (omega arith) (c.copy-in-Splits.ensures.value, c.copy-in-Splits.ensures.out_after) in record { value = p.0; out_after = p.1 })
+pub returns-in-Ok-Splits : goal.returns-in-Ok-Splits
+unfolding text_of reply_by
+returns-in-Ok-Splits c =
+    let is-Splits : c.in-Ok-Splits.field-0 ≡ Splits c.in-Ok-Splits.field-0-0 = rw c.in-Ok-Splits.is at c.in-Ok-Splits.field-0-is in
+    rw (c.in-Ok-Splits.is, is-Splits)
+    (let p = stored-front (text_of (reply_of (Ok Done))) c.args.out.now c.if-out-lt32.false (omega arith) (c.copy-in-Ok-Splits.ensures.value, c.copy-in-Ok-Splits.ensures.out_after) in record { value = p.0; out_after = p.1 })
 
-pub returns-in-Sum : goal.returns-in-Sum
-unfolding text_of reply_of
-returns-in-Sum c =
-    let sum = c.in-Sum.sum in
-    rw c.in-Sum.is
-    (let p = stored-front (text_of (reply_of (Sum sum))) c.args.out.now c.if-out-lt32.false (numbered_fits sum_word sum (omega arith)) (c.line_of.ensures.value, c.line_of.ensures.out_after) in record { value = p.0; out_after = p.1 })
+pub returns-in-Ok-Sum : goal.returns-in-Ok-Sum
+unfolding text_of reply_by
+returns-in-Ok-Sum c =
+    let sum = c.in-Ok-Sum.sum in
+    let is-Sum : c.in-Ok-Sum.field-0 ≡ Sum sum = rw c.in-Ok-Sum.is at c.in-Ok-Sum.field-0-is in
+    rw (c.in-Ok-Sum.is, is-Sum)
+    (let p = stored-front (text_of (reply_of (Ok (Sum sum)))) c.args.out.now c.if-out-lt32.false (numbered_fits sum_word sum (omega arith)) (c.line_of.ensures.value, c.line_of.ensures.out_after) in record { value = p.0; out_after = p.1 })
 
-pub returns-in-Refused : goal.returns-in-Refused
-returns-in-Refused c =
-    let why = c.in-Refused.why in
-    rw (c.in-Refused.is, refused_text why, ← c.number.ensures)
-    (let p = stored-front (numbered refused_word c.number.result) c.args.out.now c.if-out-lt32.false (numbered_fits refused_word c.number.result (omega arith)) (c.line_of-in-Refused.ensures.value, c.line_of-in-Refused.ensures.out_after) in record { value = p.0; out_after = p.1 })
+pub returns-in-Err : goal.returns-in-Err
+returns-in-Err c =
+    let why = c.in-Err.why in
+    let number = c.from.result in
+    rw (c.in-Err.is, refused_text why, ← c.number.ensures, ← c.from.ensures)
+    (let p = stored-front (numbered refused_word number) c.args.out.now c.if-out-lt32.false (numbered_fits refused_word number (omega arith)) (c.line_of-in-Err.ensures.value, c.line_of-in-Err.ensures.out_after) in record { value = p.0; out_after = p.1 })

@@ -1,31 +1,26 @@
-use mathlib.Core.Path.{◌≡◌, sym, ◌∙◌}
-use Rattle.laws.specs.AllFrom.{all_left-start, all_left_step, all_left_end}
-use Rattle.book.proofs.part.all_sound.Invariants.{tested}
+use mathlib.Core.Path.{◌≡◌, refl, ap, ◌∙◌}
+use mathlib.Core.Bool.{Bool, ◌&&◌}
+use Prim.Native.Nat.{ℕ, zero, suc}
+use native.Mathlib.Numerals.{add-one}
+use native.Mathlib.Omega.{arith}
+use Rattle.std.proofs.Common.{rules}
+use Rattle.std.proofs.lemmas.Iterator.{YieldsList-from_range}
+use Rattle.std.proofs.lemmas.Iterator.Search.{all_from_yields_List}
+use Rattle.std.specs.List.{list_all, range_with_len}
+use Rattle.model.specs.Words.{block_part}
+use Rattle.model.specs.Sound.{all_from, sound_block}
 use Rattle.book.proofs.part.all_sound.Goals as goal
-use Rattle.book.proofs.part.all_sound.Goals.{After-block_sound}
 
--- each turn tests the block of its own grade
-seen : (c : After-block_sound) → let a = c.args in
-    tested a.s a.book.now c.loop-grade.grade ≡ c.block_sound.result
-seen c = sym c.block_sound.ensures
-
-pub loop-grade-init : goal.loop-grade-init
-loop-grade-init c = all_left-start (tested c.args.s c.args.book.now) c.args.s.g
-
-pub returns-then-not-block_sound : goal.returns-then-not-block_sound
-returns-then-not-block_sound c =
-    let l = c.loop-grade in
-    let a = c.args in
-    rw (all_left_step (tested a.s a.book.now) l.grade a.s.g c.loop-grade-test.true, seen (goal.at.returns-then-not-block_sound c).After-block_sound ∙ c.if-not-block_sound.true) at l.invariant
-
-pub loop-grade-preserved : goal.loop-grade-preserved
-loop-grade-preserved c =
-    let l = c.loop-grade in
-    let a = c.args in
-    rw (all_left_step (tested a.s a.book.now) l.grade a.s.g c.loop-grade-test.true, seen (goal.at.loop-grade-preserved c).After-block_sound ∙ c.if-not-block_sound.false) at l.invariant
+-- a test of all numbers of a range
+all_from-range : (p : ℕ → Bool) (i n : ℕ) → list_all p (range_with_len i n) ≡ all_from p i n
+all_from-range p i zero = refl
+all_from-range p i (suc n) = rw (add-one i, all_from-range p (suc i) n)
 
 pub returns : goal.returns
 returns c =
-    let l = c.loop-grade in
     let a = c.args in
-    sym (all_left_end (tested a.s a.book.now) l.grade a.s.g c.loop-grade-test.false) ∙ l.invariant
+    let p : ℕ → Bool = λ grade. sound_block a.s (block_part a.s grade a.book.now) in
+    let count = c.from.result in
+    let listed : c.all.result ≡ list_all p (range_with_len 0 count) =
+    all_from_yields_List p _ _ _ c.all.ensures.ran (YieldsList-from_range 0 count count refl (omega arith)) (λ x b q h. search rules) in
+    rw c.from.ensures at (listed ∙ all_from-range p 0 count)

@@ -16,36 +16,36 @@ use Rattle.judge.proofs.admit.judge_delivery_in.Goals.{After-is_outside-outside}
 
 -- the refusals that are left, by the test of the volume
 told : (c : After-is_outside-outside) → let a = c.args in
-    first_refusal a.book.now (Delivery a.grade a.stamp a.volume) ≡ cond (not (ltb a.grade a.s.g)) 3 (cond c.is_outside-outside.result 4
-    (cond (ltb a.clock a.stamp) 8 (cond (late a.s a.clock a.stamp) 9 (room_refusal a.s a.book.now a.grade a.stamp a.volume))))
+    first_refusal a.book.now (Delivery a.grade a.stamp a.volume) ≡ cond (not (ltb a.grade a.opened.shape.g)) 3 (cond c.is_outside-outside.result 4
+    (cond (ltb a.opened.clock a.stamp) 8 (cond (late a.opened.shape a.opened.clock a.stamp) 9 (room_refusal a.opened.shape a.book.now a.grade a.stamp a.volume))))
 told c =
-    delivery_judges c.args.book.now c.args.s c.args.clock c.requires c.args.grade c.args.stamp c.args.volume ∙ rw c.is_outside-outside.ensures
+    delivery_judges c.args.book.now c.args.opened.shape c.args.opened.clock c.requires c.args.grade c.args.stamp c.args.volume ∙ rw c.is_outside-outside.ensures
 
 pub returns-then-not-known : goal.returns-then-not-known
-returns-then-not-known c = told_judgement _ _ _ (told (goal.at.returns-then-not-known c).After-is_outside-outside ∙ first_here _ _ (ap not (le-ltb c.args.grade c.args.s.g c.if-not-known.true)))
+returns-then-not-known c = told_judgement _ _ _ (told (goal.at.returns-then-not-known c).After-is_outside-outside ∙ first_here _ _ (ap not (le-ltb c.args.grade c.args.opened.shape.g c.if-not-known.true)))
 
 pub returns-then-outside : goal.returns-then-outside
-returns-then-outside c = told_judgement _ _ _ (told (goal.at.returns-then-outside c).After-is_outside-outside ∙ first_later _ _ (ap not (lt-ltb c.args.grade c.args.s.g c.if-not-known.false)) ∙ first_here _ _ c.if-outside.true)
+returns-then-outside c = told_judgement _ _ _ (told (goal.at.returns-then-outside c).After-is_outside-outside ∙ first_later _ _ (ap not (lt-ltb c.args.grade c.args.opened.shape.g c.if-not-known.false)) ∙ first_here _ _ c.if-outside.true)
 
-pub returns-then-clock-stamp : goal.returns-then-clock-stamp
-returns-then-clock-stamp c =
+pub returns-then-opened-stamp : goal.returns-then-opened-stamp
+returns-then-opened-stamp c =
     let a = c.args in
     let fair : c.is_outside-outside.result ≡ false = cc in
-    told_judgement _ _ _ (told (goal.at.returns-then-clock-stamp c).After-is_outside-outside ∙ first_later _ _ (ap not (lt-ltb c.args.grade c.args.s.g c.if-not-known.false)) ∙ first_later _ _ fair ∙ first_here _ _ (lt-ltb a.clock a.stamp c.if-clock-stamp.true))
+    told_judgement _ _ _ (told (goal.at.returns-then-opened-stamp c).After-is_outside-outside ∙ first_later _ _ (ap not (lt-ltb c.args.grade c.args.opened.shape.g c.if-not-known.false)) ∙ first_later _ _ fair ∙ first_here _ _ (lt-ltb a.opened.clock a.stamp c.if-opened-stamp.true))
 
 pub power-requires : goal.power-requires
 power-requires c =
-    omega (arith, (open_proper c.args.book.now c.args.s c.args.clock c.requires).limits.high_k)
+    omega (arith, (open_proper c.args.book.now c.args.opened.shape c.args.opened.clock c.requires).limits.high_k)
 
 pub overflow_add-stamp : goal.overflow_add-stamp
 overflow_add-stamp c =
-    omega (arith, c.power.ensures, pow_mono (open_proper c.args.book.now c.args.s c.args.clock c.requires).limits.high_k, open_clock c.args.book.now c.args.s c.args.clock c.requires, c.if-clock-stamp.false)
+    omega (arith, c.power.ensures, pow_mono (open_proper c.args.book.now c.args.opened.shape c.args.opened.clock c.requires).limits.high_k, open_clock c.args.book.now c.args.opened.shape c.args.opened.clock c.requires, c.if-opened-stamp.false)
 
 pub returns-then-stamp-power : goal.returns-then-stamp-power
 returns-then-stamp-power c =
     let a = c.args in
-    let gone : a.stamp + 2 ^ a.s.k ≤ a.clock = omega (arith, c.power.ensures, c.if-stamp-power.true) in
-    told_judgement _ _ _ (told (goal.at.returns-then-stamp-power c).After-is_outside-outside ∙ first_later _ _ (ap not (lt-ltb c.args.grade c.args.s.g c.if-not-known.false)) ∙ first_later _ _ c.if-outside.false ∙ first_later _ _ (le-ltb a.clock a.stamp c.if-clock-stamp.false) ∙ first_here _ _ (le-leb (a.stamp + 2 ^ a.s.k) a.clock gone))
+    let gone : a.stamp + 2 ^ a.opened.shape.k ≤ a.opened.clock = omega (arith, c.power.ensures, c.if-stamp-power.true) in
+    told_judgement _ _ _ (told (goal.at.returns-then-stamp-power c).After-is_outside-outside ∙ first_later _ _ (ap not (lt-ltb c.args.grade c.args.opened.shape.g c.if-not-known.false)) ∙ first_later _ _ c.if-outside.false ∙ first_later _ _ (le-ltb a.opened.clock a.stamp c.if-opened-stamp.false) ∙ first_here _ _ (le-leb (a.stamp + 2 ^ a.opened.shape.k) a.opened.clock gone))
 
 pub judge_room-requires : goal.judge_room-requires
 judge_room-requires c =
@@ -53,6 +53,6 @@ judge_room-requires c =
       book = c.requires;
       inside = c.if-not-known.false;
       fair = sym c.is_outside-outside.ensures ∙ c.if-outside.false;
-      come = c.if-clock-stamp.false;
+      come = c.if-opened-stamp.false;
       early = omega (arith, c.power.ensures, c.if-stamp-power.false);
     }

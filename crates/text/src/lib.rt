@@ -19,8 +19,8 @@ fn copy(text: &[u8], out: &mut [u8], at: usize) -> usize
     end
 }
 
-// Writes the digits of a number, at most `most`, into the buffer from `at` on. Returns where they end. By hand: std's writers into a slice do not
-// promise what they write, and its other writers take memory, which the library has none of.
+// Writes the digits of a number, at most `most`, into the buffer from `at` on. Returns where they end. By hand: std's writers into a slice
+// do not promise what they write, and its other writers take memory that is not fixed.
 fn digits(x: u64, most: usize, out: &mut [u8], at: usize) -> usize
     requires { at + most ≤ length out.old }
     ensures value { result ≡ at + length (digits_of most x) }

@@ -1,7 +1,7 @@
 // The state of reading a line of the bench program (SPECIFICATION 11.3).
 #![tactic(auto)]
 
-// The numbers before the current one.
+// The numbers before the current one. No Vec: the memory is fixed.
 #[derive(Clone, Copy)]
 pub enum Numbers {
     None,

@@ -10,8 +10,8 @@ use model::Call;
 
 const SPACE: u8 = b' ';
 
-// A space after a number. No call has more than four numbers. Letter, numbers and value stand apart here and below, as in their case of `State`:
-// the match on it takes them apart, and a struct around them would be no plainer.
+// A space after a number. No call has more than four numbers. The letter, the numbers and the value stand apart here and below, as the match
+// on `State` leaves them: a struct around them would be no plainer.
 fn space(letter: u8, kept: Numbers, value: u32) -> State
     ensures { result ≡ spaced letter kept value }
 {

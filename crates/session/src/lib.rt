@@ -11,8 +11,8 @@ ghost use Rattle.session.specs.Session.{initial, end_line, feed_byte, end_input,
 use lines::Line;
 use model::{Answer, Refusal};
 
-// The state between two bytes of the input. The buffer of words and the bytes of the output are lent beside it and not in it, since the clauses
-// `bench` of `begin`, `feed` and `end_input`, which stay, take them apart.
+// The state between two bytes of the input. The buffer of words and the bytes of the output are lent beside it and not in it: the clauses
+// `bench` of `begin`, `feed` and `end_input`, which may not change, have them apart.
 #[derive(Clone, Copy)]
 pub struct Session {
     // The line as far as it has been read, none if it has no byte yet.

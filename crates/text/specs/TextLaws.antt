@@ -1,10 +1,12 @@
 -- Digits and texts: how long they are, how they are stored, and that the digits of a number have its value. Assumes nothing.
-use Rattle.std.specs.Prelude.{Err, Bool, true, false, not, cond, List, [], ◌∷◌, ◌++◌, ◌≡◌, refl, ℕ, zero, suc, ◌+◌, ◌*◌, ◌-◌, ◌/◌, ◌%◌, ◌^◌, ◌≤◌, ◌<◌, ltb, eqb, set}
+use Rattle.std.specs.Prelude.{Err, Bool, true, false, not, cond, List, [], ◌∷◌, ◌++◌, ◌≡◌, refl, ℕ, zero, suc, ◌+◌, ◌*◌, ◌-◌, ◌/◌, ◌%◌, ◌^◌, ◌≤◌, ◌<◌, eqb, set}
 use Rattle.std.proofs.Math.Path.{sym}
 use Rattle.std.proofs.Common.{ap, ◌∙◌, add-zero, zero-add, pow-suc, arith, lt-ltb, le-ltb, le-leb, ne_eqb}
 use Rattle.std.proofs.Math.Nat.{div-add-mod}
 use Rattle.std.proofs.Math.ListN.{length, length-append}
 use Rattle.std.proofs.lemmas.List.Edits.{sets, sets-eq}
+use Rattle.std.proofs.lemmas.Fmt.{decimal_digit, decimal_step}
+use Rattle.std.specs.Fmt as Fmt
 use Rattle.shape.specs.Limits.{Reply}
 use Rattle.shape.specs.LimitsLaws.{both}
 use Rattle.model.specs.Reply.{number_of, reply_by, reply_of}
@@ -45,22 +47,20 @@ digits_most (suc most) x =
     by_lt x 10 (λ (ds : List ℕ). length ds ≤ suc most) (λ _. omega arith)
     (λ _. omega (arith, length-append (digits_of most (x / 10)) ((48 + x % 10) ∷ []), digits_most most (x / 10)))
 
-pub digits_step : (most x : ℕ) → 0 < most
-    → digits_of most x ≡ cond (ltb x 10) ((48 + x) ∷ []) (digits_of (most - 1) (x / 10) ++ (48 + x % 10) ∷ [])
-digits_step zero x h = absurd (omega arith)
-digits_step (suc most) x h = let d : suc most - 1 ≡ most = omega arith in rw d
+div_small : (most x : ℕ) → x < 10 ^ suc most → x / 10 < 10 ^ most
+div_small most x h = omega (arith, pow-suc 10 most)
 
--- several digits are those before the last, and the last
-module _ (most x : ℕ) (room : 0 < most) (h : 10 ≤ x) where
-  digits_more : digits_of most x ≡ digits_of (most - 1) (x / 10) ++ (48 + x % 10) ∷ []
-  digits_more = digits_step most x room ∙ rw (le-ltb x 10 h)
+-- the library prints a number's decimal digits
+same_digits : (most x : ℕ) → x < 10 ^ suc most → x < 2 ^ 64 → Fmt.decimal x ≡ digits_of (suc most) x
+same_digits zero x h fits =
+    by_lt x 10 (λ (ds : List ℕ). Fmt.decimal x ≡ ds) (decimal_digit x) (λ big. absurd (omega (arith, pow-suc 10 0)))
+same_digits (suc most) x h fits =
+    by_lt x 10 (λ (ds : List ℕ). Fmt.decimal x ≡ ds) (decimal_digit x)
+    (λ big. decimal_step x big fits ∙ ap (λ (ds : List ℕ). ds ++ (48 + x % 10) ∷ []) (same_digits most (x / 10) (div_small (suc most) x h) (omega arith)))
 
-  pub digits_length : length (digits_of most x) ≡ length (digits_of (most - 1) (x / 10)) + 1
-  digits_length = ap length digits_more ∙ length-append (digits_of (most - 1) (x / 10)) ((48 + x % 10) ∷ [])
-
-  pub digits_stored : (l : List ℕ) (at : ℕ)
-      → set (sets l at (digits_of (most - 1) (x / 10))) (at + length (digits_of (most - 1) (x / 10))) (48 + x % 10) ≡ sets l at (digits_of most x)
-  digits_stored l at = sym (ap (sets l at) digits_more ∙ sets_append (digits_of (most - 1) (x / 10)) ((48 + x % 10) ∷ []) l at)
+pub decimal_same : (x : ℕ) → x < 2 ^ 64 → Fmt.decimal x ≡ decimal x
+unfolding decimal
+decimal_same x h = same_digits 19 x (omega arith) h
 
 -- a word, a number's digits and a newline, stored one after the other
 module _ (word : List ℕ) (x : ℕ) where
@@ -121,9 +121,6 @@ refused_text Output = refl
 value_append : (v : ℕ) (ds : List ℕ) (d : ℕ) → value_from v (ds ++ d ∷ []) ≡ 10 * value_from v ds + (d - 48)
 value_append v [] d = refl
 value_append v (e ∷ ds) d = value_append (10 * v + (e - 48)) ds d
-
-div_small : (most x : ℕ) → x < 10 ^ suc most → x / 10 < 10 ^ most
-div_small most x h = omega (arith, pow-suc 10 most)
 
 digits_value : (most x : ℕ) → x < 10 ^ most → value_of (digits_of most x) ≡ x
 digits_value zero x h = omega arith

@@ -4,8 +4,9 @@
 ghost use Rattle.std.specs.Prelude.{◌≡◌, ◌+◌, ◌≤◌, length};
 ghost use Rattle.std.proofs.lemmas.List.Edits.{sets};
 ghost use Rattle.model.specs.Reply.{reply_of};
-ghost use Rattle.text.specs.Text.{digits_of, numbered, text_of, unread_text, written, stored};
+ghost use Rattle.text.specs.Text.{numbered, text_of, unread_text, written, stored};
 
+use itoa::Buffer;
 use model::{Answer, Refusal};
 
 // Writes a text into the buffer from `at` on. Returns where it ends.
@@ -19,25 +20,6 @@ fn copy(text: &[u8], out: &mut [u8], at: usize) -> usize
     end
 }
 
-// Writes the digits of a number, at most `most`, into the buffer from `at` on. Returns where they end. By hand: std's writers into a slice do not
-// promise what they write, and its other writers take memory, which the library has none of.
-fn digits(x: u64, most: usize, out: &mut [u8], at: usize) -> usize
-    requires { at + most ≤ length out.old }
-    ensures value { result ≡ at + length (digits_of most x) }
-    ensures out_after { out.new ≡ sets out.old at (digits_of most x) }
-{
-    if most == 0 {
-        return at;
-    }
-    if x < 10 {
-        out[at] = 48 + x as u8;
-        return at + 1;
-    }
-    let end = digits(x / 10, most - 1, out, at);
-    out[end] = 48 + (x % 10) as u8;
-    end + 1
-}
-
 // Writes a word and a number as one line. Returns its length.
 fn line_of(word: &[u8], x: u64, out: &mut [u8]) -> usize
     requires { (length word.now ≤ 8) × (32 ≤ length out.old) }
@@ -45,9 +27,8 @@ fn line_of(word: &[u8], x: u64, out: &mut [u8]) -> usize
     ensures out_after { out.new ≡ sets out.old 0 (numbered word.now x) }
 {
     let at = copy(word, out, 0);
-    let end = digits(x, 20, out, at);
-    out[end] = b'\n';
-    end + 1
+    let end = copy(Buffer::new().format(x).as_bytes(), out, at);
+    copy(b"\n", out, end)
 }
 
 // Writes the line of an answer to the front of the buffer. Returns its length. If the buffer is shorter than 32 bytes, it writes nothing and

@@ -12,9 +12,6 @@ pub returns-then-j-eq0 : goal.returns-then-j-eq0
 returns-then-j-eq0 c =
     rw c.first_after.ensures (put_in_lowest c.requires.0 c.args.i _ (omega arith) c.if-j-eq0.true c.requires.2)
 
-pub first_after-requires-2 : goal.first_after-requires-2
-first_after-requires-2 c = c.requires.0.lowest (omega arith)
-
 pub returns : goal.returns
 returns c =
     rw c.first_after-2.ensures (put_in_shifted c.requires.0 c.args.i _ (omega arith) (omega arith) c.shift_in.ensures)

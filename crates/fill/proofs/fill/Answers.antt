@@ -5,7 +5,7 @@ use native.Mathlib.Numerals.{add-one}
 use lib.ListN.{get_or, set}
 use Rattle.laws.specs.BlockWords.{block_words-halves}
 use Rattle.laws.specs.DeliverSplits.{splits_from-start}
-use Rattle.fill.specs.Fill.{Fills, Filling, filled, total_fits, level_in, delivering_insertable, level_filled, level_splits_on}
+use Rattle.fill.specs.Fill.{Fills, Filling, filled, level_in, delivering_insertable, level_filled, level_splits_on}
 use native.Mathlib.Omega.{arith}
 use Rattle.fill.proofs.fill.Goals as goal
 use Rattle.fill.proofs.fill.Goals.{After-from, After-insert_at-splits}
@@ -13,12 +13,6 @@ use Rattle.fill.proofs.fill.Goals.{After-from, After-insert_at-splits}
 pub bounds-block-at : goal.bounds-block-at
 bounds-block-at c =
     omega (arith, block_words-halves c.args.s, c.requires.deliverable.whole.size, c.requires.half)
-
-pub overflow_add-total : goal.overflow_add-total
-overflow_add-total c = omega (arith, total_fits c.requires, c.from.ensures)
-
-pub overflow_cast-block : goal.overflow_cast-block
-overflow_cast-block c = omega (arith, total_fits c.requires, c.from.ensures)
 
 pub bounds-block-at-2 : goal.bounds-block-at-2
 bounds-block-at-2 c =
@@ -44,11 +38,6 @@ insert_at-splits-requires c =
       rw e.words (delivering_insertable a.s a.stamp a.parity a.x a.v a.block.now c.requires l.i (omega arith)),
     )
 
-pub overflow_add-splits : goal.overflow_add-splits
-overflow_add-splits c =
-    let top = c.requires.deliverable.whole.proper in
-    omega (arith, c.loop-i.invariant.0, c.insert_at-splits.ensures.most, c.loop-i-test.true, top.last, top.limits.high_k, top.limits.high_m)
-
 -- level i has the volume too
 filling : (d : After-insert_at-splits) (ws : List ℕ)
     → let a = d.args in
@@ -69,14 +58,6 @@ loop-i-preserved c =
     let top = c.requires.deliverable.whole.proper in
     let d = (goal.at.loop-i-preserved c).After-insert_at-splits in
     (omega (arith, c.loop-i.invariant.0, c.insert_at-splits.ensures.most, top.limits.high_k), λ ws e f. rw (add-one c.loop-i.i) (filling d ws e f))
-
-pub returns : goal.returns
-returns c =
-    let a = c.args in
-    let all : c.loop-i.i ≡ suc a.s.last = omega (arith, c.loop-i.auto.i-end) in
-    let so = rw all at (c.loop-i.invariant.1 a.block.now (start (goal.at.returns c).After-from) c.requires) in
-    let end = filled so c.requires.deliverable.whole in
-    record { words = end.0; count = end.1 }
 
 pub returns-2 : goal.returns-2
 returns-2 c =

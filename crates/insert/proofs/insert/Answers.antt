@@ -11,10 +11,6 @@ returns-then-x-level c =
     let o = c.requires in
     record { words = below o c.if-x-level.true; count = sym (below_splits o c.if-x-level.true); most = omega arith }
 
-pub insert_single-requires : goal.insert_single-requires
-insert_single-requires c =
-    (rw c.if-i-eq0.true at c.requires, c.if-x-level.false)
-
 pub returns-then-i-eq0 : goal.returns-then-i-eq0
 returns-then-i-eq0 c =
     let a = c.args in

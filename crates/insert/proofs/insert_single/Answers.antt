@@ -1,7 +1,7 @@
 -- The slot found has the bucket of x, which gains v, or a bucket for x is put in before it.
 use mathlib.Core.Path.{◌∙◌}
 use native.Mathlib.Omega.{arith}
-use Rattle.insert.specs.Entry.{searchable, small, total_fits, found, found_takes, gains, makes}
+use Rattle.insert.specs.Entry.{searchable, small, found, found_takes, gains, makes}
 use Rattle.insert.proofs.insert_single.Goals as goal
 
 pub find-j-requires : goal.find-j-requires
@@ -23,9 +23,6 @@ pub returns-then-is_at : goal.returns-then-is_at
 returns-then-is_at c =
     let at = c.is_at.ensures.yes c.if-is_at.true in
     c.gain.ensures ∙ (gains (found c.requires.0 c.requires.1 c.find-j.ensures) at.0 at.1).1
-
-pub overflow_cast-single : goal.overflow_cast-single
-overflow_cast-single c = omega (arith, total_fits c.requires.0)
 
 pub put_at-requires : goal.put_at-requires
 put_at-requires c =

@@ -11,11 +11,6 @@ use Rattle.insert.specs.Loop.{full, Continues}
 use Rattle.insert.proofs.split.Goals as goal
 use Rattle.insert.proofs.split.Goals.{After-split_at-up}
 
-pub overflow_sub-rest : goal.overflow_sub-rest
-overflow_sub-rest c =
-    let fills = full c.args.i c.args.v (slot c.args.level.now c.args.j) c.requires.1 in
-    omega (arith, fills.1, ap (λ (b : Bucket). b.weight) c.slot_at-b.ensures)
-
 -- what is known after the split
 was-split : (d : After-split_at-up)
     → let a = d.args in

@@ -72,7 +72,8 @@ fn see_bucket(t: Seen, b: Slot, least: u32) -> Seen
     }
 }
 
-// A bucket of level i. The level is the same for a whole pass, so the compiler makes two loops of this one.
+// A bucket of level i. The level is the same for a whole pass, so the compiler makes two loops of this one. The step is no closure, because its
+// contract would have to repeat the two bounds and what a bucket adds to them.
 fn see_one(t: Seen, b: Slot, i: u8, least: u32) -> Seen
     requires { (t.short ≤ 2048) × (t.high ≤ 67108864) }
     ensures { (result ≡ see_one i least t (content b)) × (result.short ≤ t.short + 2) × (result.high ≤ t.high + 65535) }

@@ -20,7 +20,7 @@ pub struct Seen {
     pub high: u32,
 }
 
-// The weight of a level's buckets, and whether they are sound.
+// The weight of a level's buckets, and whether they are sound. This is no Option, because `Judged` promises the weight of unsound buckets too.
 #[derive(Clone, Copy)]
 pub struct Verdict {
     pub weight: u64,

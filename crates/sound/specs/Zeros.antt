@@ -57,6 +57,10 @@ zeros-four a b c d all j ha hb hc hd =
     ∙ ap (λ (t : Bool). t && here) (zeros_pair a b all j ha hb)
     ∙ and_assoc (eqb all 0) (zeros (drop j a) && zeros (drop j b)) here
 
+-- joining one more word
+pub zeros-one : (ws : List ℕ) (all j : ℕ) → j < length ws → (eqb (bit_or all (get_or ws j 0)) 0 && zeros (drop (j + 1) ws)) ≡ (eqb all 0 && zeros (drop j ws))
+zeros-one ws all j h = rw (or_tested all (get_or ws j 0), zeros_step ws j h) (and_assoc (eqb all 0) (eqb (get_or ws j 0) 0) (zeros (drop (j + 1) ws)))
+
 -- joining one word after another
 pub zeros-joined : (all : ℕ) (ws : List ℕ) → eqb (fold bit_or all ws) 0 ≡ (eqb all 0 && zeros ws)
 zeros-joined all [] = sym (and-true (eqb all 0))

@@ -20,6 +20,19 @@ pub struct Taken {
     pub clock: u32,
 }
 
+impl Taken {
+    // The same once the day's next record is taken too.
+    fn past(self, it: Record) -> Taken
+        requires { self.count + 1 < 2 ^ 64 }
+        ensures { result ≡ record { count = self.count + 1; clock = clock_after self.clock it } }
+    {
+        Taken {
+            count: self.count + 1,
+            clock: clock_after(self.clock, it),
+        }
+    }
+}
+
 // Where the merge stands in both days.
 #[derive(Clone, Copy)]
 pub struct Place {
@@ -54,17 +67,6 @@ fn put_record(out: &mut [u32], to: usize, it: Record)
     out[at + 3] = it.third;
 }
 
-// How far the day is merged once its next record is taken too.
-fn past(taken: Taken, it: Record) -> Taken
-    requires { taken.count + 1 < 2 ^ 64 }
-    ensures { result ≡ record { count = taken.count + 1; clock = clock_after taken.clock it } }
-{
-    Taken {
-        count: taken.count + 1,
-        clock: clock_after(taken.clock, it),
-    }
-}
-
 // Writes the next record.
 fn take_next(a: &[u32], b: &[u32], p: Place, out: &mut [u32]) -> Place
     requires { Merging a.now b.now p.first.count p.first.clock p.second.count p.second.clock out.old × (p.first.count + p.second.count < record_count out.old) }
@@ -75,7 +77,7 @@ fn take_next(a: &[u32], b: &[u32], p: Place, out: &mut [u32]) -> Place
         let it = record_at(a, p.first.count);
         put_record(out, to, it);
         return Place {
-            first: past(p.first, it),
+            first: p.first.past(it),
             second: p.second,
         };
     }
@@ -83,7 +85,7 @@ fn take_next(a: &[u32], b: &[u32], p: Place, out: &mut [u32]) -> Place
     put_record(out, to, it);
     Place {
         first: p.first,
-        second: past(p.second, it),
+        second: p.second.past(it),
     }
 }
 

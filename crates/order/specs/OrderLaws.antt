@@ -3,10 +3,9 @@ use Rattle.std.specs.Prelude.{Bool, false, ◌&&◌, ◌≡◌, List, ℕ, ◌+�
 use Rattle.std.proofs.Math.Bool.{true}
 use Rattle.std.proofs.Math.Path.{sym}
 use Rattle.std.proofs.Common.{ap, ◌∙◌}
-use Rattle.std.proofs.Math.Dec.{eqb}
-use borrow.Author.Tests.{le-leb, lt-leb, eq-eqb, ne_eqb}
+use borrow.Author.Tests.{le-leb, lt-leb}
 use Rattle.model.specs.Sound.{max_clock}
-use Rattle.model.specs.Trace.{clock_kind, record_at, records_of}
+use Rattle.model.specs.Trace.{record_at, records_of}
 use Rattle.model.specs.Merge.{is_clock, clock_after, orderly, mergeable}
 use Rattle.laws.specs.Cond.{and-false}
 use Rattle.days.specs.Records.{record_count, records_from, records_from-start, records_from_step, records_from_end}

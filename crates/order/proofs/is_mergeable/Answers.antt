@@ -1,6 +1,5 @@
 -- No record; another record first than a clock's; or the test of the clocks.
 use native.Mathlib.Omega.{arith}
-use borrow.Author.Tests.{eqb-true, eqb-false}
 use mathlib.Core.Path.{sym, ap, ◌∙◌}
 use Rattle.model.specs.Merge.{is_clock}
 use Rattle.order.specs.OrderLaws.{none-mergeable, unopened-mergeable, opened-mergeable}

@@ -1,6 +1,6 @@
 -- Words written and records left make up the whole merge.
 use native.Mathlib.Omega.{arith}
-use mathlib.Core.Path.{refl, ◌∙◌}
+use mathlib.Core.Path.{refl}
 use Rattle.merge_laws.specs.Merging.{merging_start, merging_end}
 use Rattle.two_way.proofs.merge_records.Goals as goal
 

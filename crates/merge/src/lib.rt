@@ -16,14 +16,11 @@ use trace::is_sound_trace;
 use two_way::merge_records;
 use words::both;
 
-// Whether x and y make up the sum. x + y is not formed, since it might not fit a usize.
+// Whether x and y make up the sum. x + y might not fit a usize.
 fn is_sum(sum: usize, x: usize, y: usize) -> bool
     ensures { result ≡ eqb sum (x + y) }
 {
-    if sum < x {
-        return false;
-    }
-    sum - x == y
+    x.checked_add(y) == Some(sum)
 }
 
 // Merges two sound days, or refuses their order or the output's length.
@@ -31,6 +28,7 @@ fn merge_days(a: &[u32], b: &[u32], out: &mut [u32]) -> Result<(), Refusal>
     requires { (sound_day a.now ≡ true) × (sound_day b.now ≡ true) }
     ensures { outcome_of (done_reply result) out.new ≡ merge_days a.now b.now out.old }
 {
+    // `both`, not `&&`: one value for each pair of tests, which the refusals below take in their order, as the proof does.
     let ordered = both(is_mergeable(a), is_mergeable(b));
     let fits = is_sum(out.len(), a.len(), b.len());
     if !ordered {
@@ -71,6 +69,7 @@ fn merge_first(
 ) -> Result<(), Refusal>
     ensures { outcome_of (done_reply result) out.new ≡ merge_first first.now i second.now j out.old }
 {
+    // `both`, not `&&`: as in `merge_days`.
     let sound = both(is_sound_trace(first), is_sound_trace(second));
     let there = both(has_day(first, i), has_day(second, j));
     if !sound {

@@ -7,7 +7,7 @@ use Rattle.std.proofs.Math.Dec.{eqb}
 use borrow.Author.Tests.{le-leb, lt-leb, eq-eqb, ne_eqb}
 use Rattle.model.specs.Sound.{max_clock}
 use Rattle.model.specs.Trace.{clock_kind, record_at, records_of}
-use Rattle.model.specs.Merge.{is_clock, clock_after, orderly, mergeable}
+use Rattle.model.specs.Merge.{clock_after, orderly, mergeable}
 use Rattle.laws.specs.Cond.{and-false}
 use Rattle.days.specs.Records.{record_count, records_from, records_from-start, records_from_step, records_from_end}
 
@@ -40,10 +40,12 @@ module _ (day : List ℕ) where
   unfolding mergeable
   none-mergeable h = rw (← records_from-start day, records_from_end day 0 h)
 
-  pub unopened-mergeable : 0 < record_count day → is_clock (record_at day 0) ≡ false → false ≡ mergeable (records_of day)
+  pub unopened-mergeable : 0 < record_count day → ((record_at day 0).kind ≡ clock_kind → ⊥) → false ≡ mergeable (records_of day)
   unfolding mergeable
-  unopened-mergeable more h = rw (← records_from-start day, records_from_step day 0 more, h)
+  unopened-mergeable more h = rw (← records_from-start day, records_from_step day 0 more, ne_eqb (record_at day 0).kind clock_kind h)
 
-  pub opened-mergeable : 0 < record_count day → is_clock (record_at day 0) ≡ true → orderly 0 (records_of day) ≡ mergeable (records_of day)
+  pub opened-mergeable : 0 < record_count day → (record_at day 0).kind ≡ clock_kind → orderly 0 (records_of day) ≡ mergeable (records_of day)
   unfolding mergeable
-  opened-mergeable more h = sym (rw (← records_from-start day, records_from_step day 0 more, h))
+  opened-mergeable more h =
+      let opens : eqb (record_at day 0).kind clock_kind ≡ true = eq-eqb (record_at day 0).kind clock_kind h in
+      sym (rw (← records_from-start day, records_from_step day 0 more, opens))

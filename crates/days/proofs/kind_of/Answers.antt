@@ -1,6 +1,6 @@
 -- Each arm is one case of the definition.
 use Rattle.std.proofs.Common.{arith}
-use borrow.Author.Tests.{eq-eqb, ne_eqb}
+use borrow.Author.Tests.{ne_eqb}
 use Rattle.days.specs.Kind.{kind_of}
 use Rattle.days.proofs.kind_of.Goals as goal
 

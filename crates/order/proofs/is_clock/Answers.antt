@@ -1,5 +1,5 @@
 -- The kind of a clock is that which its number names, and no other kind equals it.
-use Rattle.std.proofs.Common.{◌≡◌, refl, ap, ◌∙◌, ℕ, Bool, true, false, Some, None}
+use Rattle.std.proofs.Common.{◌≡◌, refl, ◌∙◌, ℕ, Bool, true, false, Some, None}
 use Rattle.std.specs.Prelude.{cond, eqb}
 use Rattle.std.specs.Option.{option_eq}
 use Rattle.model.specs.Trace.{clock_kind, delivery_kind, query_kind}

@@ -1,6 +1,7 @@
 -- No record; another record first than a clock's; or the test of the clocks.
 use native.Mathlib.Omega.{arith}
-use borrow.Author.Tests.{eqb-true, eqb-false}
+use borrow.Author.Tests.{eq-eqb, eqb-true}
+use mathlib.Core.Bool.{true≢false}
 use mathlib.Core.Path.{sym, ap, ◌∙◌}
 use Rattle.model.specs.Merge.{is_clock}
 use Rattle.order.specs.OrderLaws.{none-mergeable, unopened-mergeable, opened-mergeable}
@@ -11,8 +12,10 @@ returns-then-day-lt-RECORD_WORDS c = none-mergeable c.args.day.now (omega (arith
 
 pub returns-then-not-is_clock : goal.returns-then-not-is_clock
 returns-then-not-is_clock c =
-    unopened-mergeable c.args.day.now (omega (arith, c.if-day-lt-RECORD_WORDS.false)) (sym (ap is_clock c.record_at-opening.ensures) ∙ sym c.is_clock.ensures ∙ c.if-not-is_clock.true)
+    let none = sym (ap is_clock c.record_at-opening.ensures) ∙ sym c.is_clock.ensures ∙ c.if-not-is_clock.true in
+    unopened-mergeable c.args.day.now (omega (arith, c.if-day-lt-RECORD_WORDS.false)) (λ e. true≢false (sym (eq-eqb _ _ e) ∙ none))
 
 pub returns : goal.returns
 returns c =
-    c.is_orderly.ensures ∙ opened-mergeable c.args.day.now (omega (arith, c.if-day-lt-RECORD_WORDS.false)) (sym (ap is_clock c.record_at-opening.ensures) ∙ sym c.is_clock.ensures ∙ c.if-not-is_clock.false)
+    let opens = sym (ap is_clock c.record_at-opening.ensures) ∙ sym c.is_clock.ensures ∙ c.if-not-is_clock.false in
+    c.is_orderly.ensures ∙ opened-mergeable c.args.day.now (omega (arith, c.if-day-lt-RECORD_WORDS.false)) (eqb-true _ _ opens)

@@ -1,5 +1,4 @@
 use mathlib.Core.Path.{◌≡◌}
-use Prim.Native.Nat.{◌-◌, ◌≤◌}
 use Rattle.model.specs.Trace.{records_of}
 use Rattle.model.specs.Merge.{orderly}
 use Rattle.order.specs.OrderLaws.{orderly_from}

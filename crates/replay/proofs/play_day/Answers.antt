@@ -1,6 +1,5 @@
 -- What is played and what is left give the whole replay; the words past the answers are kept.
 use native.Mathlib.Omega.{arith}
-use mathlib.Core.Path.{refl, ◌∙◌}
 use Rattle.days.specs.Records.{length_records}
 use Rattle.replay.specs.ReplayLaws.{played_start, played_step, played_end}
 use Rattle.replay.proofs.play_day.Goals as goal

@@ -1,7 +1,3 @@
-use mathlib.Core.Path.{◌≡◌}
-use Prim.Native.Nat.{◌-◌, ◌*◌, ◌≤◌}
-use lib.ListN.{length}
-use Rattle.model.specs.Replay.{answer_words}
 use Rattle.replay.specs.ReplayLaws.{Played}
 use Rattle.replay.proofs.play_day.Given as goal
 

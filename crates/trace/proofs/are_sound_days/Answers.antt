@@ -1,5 +1,5 @@
 -- The test of all days is the whole test: each part that is looked at is the day's.
-use Rattle.std.proofs.Common.{rules, ◌≡◌, refl, length, ℕ, ◌<◌, Bool, true, false, take, drop, arith}
+use Rattle.std.proofs.Common.{rules, ◌≡◌, refl, ℕ, Bool, true, false, arith}
 use Rattle.std.proofs.Math.Nat.{sub-zero}
 use Rattle.std.proofs.lemmas.Iterator.{cases_from_all, serves_from_Range, YieldsList-from_range}
 use Rattle.model.specs.Trace.{sound_day, day_part, pair_start}

@@ -1,9 +1,7 @@
 -- Each way out of the tests is one case of the definition.
 use native.Mathlib.Omega.{arith}
-use mathlib.Core.Path.{◌≡◌, sym, ap, ◌∙◌}
-use Prim.Native.Nat.{ℕ}
-use Rattle.model.specs.Sound.{all_from}
-use Rattle.model.specs.Trace.{sound_day, day_count, pair_start, day_part, laid}
+use mathlib.Core.Path.{sym, ◌∙◌}
+use Rattle.model.specs.Trace.{day_count, pair_start}
 use Rattle.trace.specs.TraceLaws.{laid-past, unsound-none, unsound_many, unsound-layout, sound-days}
 use Rattle.trace.proofs.is_sound_trace.Goals as goal
 

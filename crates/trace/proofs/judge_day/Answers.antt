@@ -6,7 +6,6 @@ use mathlib.Core.Path.{◌≡◌, sym, ap, ◌∙◌}
 use Rattle.shape.specs.Limits.{accepted}
 use Rattle.model.specs.Trace.{sound_trace}
 use Rattle.days.specs.declared.Pair.{Pair}
-use Rattle.days.specs.Pair.{pair_at}
 use Rattle.model.specs.Reply.{reply_by}
 use Rattle.trace.specs.TraceLaws.{sound_facts, unsound_reply, absent_reply, found_reply}
 use Rattle.trace.proofs.judge_day.Goals as goal

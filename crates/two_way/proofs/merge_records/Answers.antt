@@ -1,6 +1,6 @@
 -- Words written and records left make up the whole merge.
 use native.Mathlib.Omega.{arith}
-use mathlib.Core.Path.{refl, ◌∙◌}
+use mathlib.Core.Path.{refl}
 use Rattle.merge_laws.specs.Merging.{merging_start, merging_end}
 use Rattle.two_way.proofs.merge_records.Goals as goal
 
@@ -17,5 +17,5 @@ pub returns : goal.returns
 returns c =
     let a = c.args in
     let p = c.loop-to.p in
-    merging_end a.a.now a.b.now p.i p.c p.j p.d c.loop-to.out c.loop-to.invariant.0
+    merging_end a.a.now a.b.now p.first.count p.first.clock p.second.count p.second.clock c.loop-to.out c.loop-to.invariant.0
     (omega (arith, c.loop-to-test.false, c.loop-to.invariant.1))

@@ -44,12 +44,12 @@ fn see_single(t: Seen, b: Slot) -> Seen
     ensures { (result ≡ see_single t (content b)) × (result.short ≤ t.short + 2) × (result.high ≤ t.high + 65535) }
 {
     Seen {
-        end: std::num::wrapping_add_u32(b.offset, 1),
+        end: b.offset.wrapping_add(1),
         faults: t.faults | (b.width ^ 1),
         reach: t.reach | b.offset,
         heavy: t.heavy,
         short: t.short + (below(b.offset, t.end) + below(b.weight, 1)),
-        low: std::num::wrapping_add_u32(t.low, b.weight),
+        low: t.low.wrapping_add(b.weight),
         high: t.high + b.weight / 65536,
     }
 }
@@ -60,14 +60,14 @@ fn see_bucket(t: Seen, b: Slot, least: u32) -> Seen
     requires { (t.short ≤ 2048) × (t.high ≤ 67108864) }
     ensures { (result ≡ see_bucket least t (content b)) × (result.short ≤ t.short + 1) × (result.high ≤ t.high + 65535) }
 {
-    let less = std::num::wrapping_sub_u32(b.width, 1);
+    let less = b.width.wrapping_sub(1);
     Seen {
-        end: std::num::wrapping_add_u32(b.offset, b.width),
+        end: b.offset.wrapping_add(b.width),
         faults: t.faults | (t.end ^ b.offset) | (b.width & less) | (b.offset & less),
         reach: t.reach | less,
         heavy: t.heavy | spread(b),
         short: t.short + below(b.weight, least),
-        low: std::num::wrapping_add_u32(t.low, b.weight),
+        low: t.low.wrapping_add(b.weight),
         high: t.high + b.weight / 65536,
     }
 }

@@ -19,7 +19,7 @@ fn weight_of(slots: &[[u32; SLOT_LEN]]) -> u32
 {
     let mut sum: u32 = 0;
     for words in slots {
-        sum = std::num::wrapping_add_u32(sum, Slot::from(words).weight);
+        sum = sum.wrapping_add(Slot::from(words).weight);
     }
     sum
 }

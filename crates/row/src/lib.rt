@@ -25,10 +25,10 @@ fn mask(x: u32, y: u32) -> u32
 pub fn quick_bucket(t: Quick, b: Slot, least: u32, most: u32) -> Quick
     ensures { result ≡ quick_bucket least most t (content b) }
 {
-    let before = std::num::wrapping_sub_u32(b.width, 1);
-    let extra = std::num::wrapping_sub_u32(b.weight, least);
+    let before = b.width.wrapping_sub(1);
+    let extra = b.weight.wrapping_sub(least);
     Quick {
-        end: std::num::wrapping_add_u32(b.offset, b.width),
+        end: b.offset.wrapping_add(b.width),
         faults: t.faults
             | (t.end ^ b.offset)
             | (b.width & before)
@@ -69,7 +69,7 @@ fn end_at(rest: &[u32], at: usize) -> u32
     requires { at + 2 ≤ length rest.now }
     ensures { result ≡ end_at rest.now at }
 {
-    std::num::wrapping_add_u32(rest[at], rest[at + 1])
+    rest[at].wrapping_add(rest[at + 1])
 }
 
 // 0 if the bucket at word `at` ends at the offset of the next.

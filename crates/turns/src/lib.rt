@@ -17,7 +17,7 @@ fn fresh(first: u32, width: u32) -> Quick
     Quick {
         end: first,
         faults: 0,
-        reach: std::num::wrapping_sub_u32(width, 1),
+        reach: width.wrapping_sub(1),
         extra: 0,
     }
 }

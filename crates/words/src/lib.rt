@@ -1,4 +1,4 @@
-// What several crates do with words: a word as a number of another type, a power of two, the words of a slot, and two Booleans joined.
+// What several crates do with words: a power of two, the words of a slot, and two Booleans joined.
 #![tactic(auto)]
 
 ghost use Rattle.std.specs.Prelude.{◌≡◌, ◌&&◌, ◌+◌, ◌*◌, ◌^◌, ◌<◌, ◌≤◌, length, drop, map};
@@ -8,20 +8,6 @@ ghost use Rattle.model.specs.Sound.{implies};
 ghost use Rattle.words.specs.Slot.{content, front};
 
 use shape::{LEVEL_HEAD_LEN, SLOT_LEN};
-
-// A word as an index.
-pub fn wide(x: u32) -> usize
-    ensures { result ≡ x }
-{
-    x as usize
-}
-
-// A word as a term of a sum of 64 bits.
-pub fn long(x: u32) -> u64
-    ensures { (result ≡ x) × (result < 2 ^ 32) }
-{
-    x as u64
-}
 
 pub fn power(k: u8) -> u32
     requires { k ≤ 31 }

@@ -6,7 +6,7 @@ use Rattle.pass.proofs.see_single.Goals as goal
 pub returns : goal.returns
 unfolding see_single
 returns c = (
-  rw (c.wrapping_add_u32-2.ensures.value, c.below-2.ensures.0, c.below.ensures.0, c.wrapping_add_u32.ensures.value),
+  rw (c.below-2.ensures.0, c.below.ensures.0),
   omega (arith, c.below-2.ensures.1, c.below.ensures.1),
   omega arith,
 )

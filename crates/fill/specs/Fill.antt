@@ -1,8 +1,7 @@
 -- What a delivery into a block requires, and what it then requires of each level. Rests on the delivery as writes of levels.
 use Rattle.std.specs.Prelude.{◌≡◌, List, ℕ, suc, ◌+◌, ◌%◌, ◌^◌, ◌≤◌, ◌<◌, get_or}
-use Rattle.std.proofs.Common.{sym, ap, ◌∙◌, arith, pow_mono}
+use Rattle.std.proofs.Common.{sym, ◌∙◌, arith}
 use Rattle.shape.specs.declared.Shape.{Shape}
-use Rattle.shape.specs.Layout.{total_start}
 use Rattle.model.specs.Level.{insert, insert_splits}
 use Rattle.model.specs.Block.{interval, offset_of, deliver, deliver_splits}
 use Rattle.model.specs.Words.{level_part, decode_level, encode_level, decode_block, encode_block}
@@ -23,11 +22,6 @@ pub record Fills (s : Shape) (stamp parity x v : ℕ) (ws : List ℕ) : Type 0 w
   pub deliverable : Deliverable s stamp v ws
   pub half : parity ≡ interval s stamp % 2
   pub place : x ≡ offset_of s stamp
-
--- the total and the volume fit a word
-pub total_fits : {s : Shape} {stamp parity x v : ℕ} {ws : List ℕ} → Fills s stamp parity x v ws → get_or ws (total_start parity) 0 + v < 2 ^ 32
-total_fits {s} {ws} f =
-    omega (arith, ap (λ (z : ℕ). get_or ws z 0) f.half, f.deliverable.room, pow_mono {i = s.m} {j = 24} f.deliverable.whole.proper.limits.high_m)
 
 module _ (s : Shape) (stamp parity x v : ℕ) (ws : List ℕ) (f : Fills s stamp parity x v ws) (i : ℕ) (low : i ≤ s.last) where
   abbrev t : Deliverable s stamp v ws

@@ -1,6 +1,6 @@
 -- Insertion as a loop: when a bucket is split, and what a split leaves to do. Rests on `Ready`.
-use Rattle.std.specs.Prelude.{Bool, true, false, Option, MatchOption, ◌&&◌, List, ◌∷◌, ◌++◌, ◌≡◌, ℕ, suc, ◌+◌, ◌*◌, ◌^◌, ◌≤◌, ◌<◌, leb, ltb, length}
-use Rattle.std.proofs.Common.{pow-suc, arith, ltb-true, leb-true, leb-false, lt-ltb}
+use Rattle.std.specs.Prelude.{Bool, true, false, Option, MatchOption, ◌&&◌, List, ◌∷◌, ◌++◌, ◌≡◌, ℕ, suc, ◌+◌, ◌^◌, ◌≤◌, ◌<◌, leb, ltb, length}
+use Rattle.std.proofs.Common.{ltb-true, leb-true, leb-false, lt-ltb}
 use Rattle.shape.specs.LimitsLaws.{both}
 use Rattle.model.specs.Level.{Bucket, level_of, evict, insert, insert_splits}
 use Rattle.model.specs.Words.{slot, decode_level, encode_level}
@@ -13,10 +13,6 @@ abbrev pub gets_full : ℕ → ℕ → Bucket → Bool
 gets_full i v b = ltb 1 b.width && leb (2 ^ suc i) (b.weight + v)
 
 module _ (i v : ℕ) (b : Bucket) where
-  -- of a bucket wider than 1, the comparison that the code makes decides it
-  pub compared : {power weight : ℕ} → 1 < b.width → power ≡ 2 ^ i → weight ≡ b.weight → leb (2 * power) (weight + v) ≡ gets_full i v b
-  compared {power} long p w = let two : 2 * power ≡ 2 ^ suc i = omega (arith, p, pow-suc 2 i) in rw (two, w, lt-ltb 1 b.width long)
-
   pub full : gets_full i v b ≡ true → (1 < b.width) × (2 ^ suc i ≤ b.weight + v)
   full e = let p = both e in (ltb-true 1 b.width p.0, leb-true (2 ^ suc i) (b.weight + v) p.1)
 

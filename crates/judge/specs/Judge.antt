@@ -20,7 +20,7 @@ use Rattle.model.specs.Claim.{ByCall}
 use Rattle.laws.specs.BookWords.{head_proper, sound_head-clock, length-block_part}
 use Rattle.book.specs.declared.head.Opened.{Opened}
 use Rattle.book.specs.Judgement.{opened_of, judgement, opened_number, first_refusal}
-use Rattle.book.specs.Head.{Told, told_judgement, judgement_told}
+use Rattle.book.specs.Head.{told_judgement, judgement_told}
 use Rattle.book.specs.Part.{InBook}
 
 -- a book whose head is sound and whose length is right

@@ -1,5 +1,5 @@
 -- The match says which result it is.
-use Rattle.std.proofs.Common.{sym, ap, ◌∙◌, [], Result}
+use Rattle.std.proofs.Common.{sym, ap, ◌∙◌, []}
 use Rattle.shape.specs.Limits.{accepted}
 use Rattle.model.specs.Reply.{reply_by}
 use Rattle.codes.proofs.answer_number.Goals as goal

@@ -1,5 +1,5 @@
 -- The constructor says whether the shape is within its limits; the rest is `with_shape`.
-use Rattle.std.proofs.Common.{◌≡◌, sym, ap, ◌∙◌, arith, Ok, Err, Some, None}
+use Rattle.std.proofs.Common.{◌≡◌, sym, ap, ◌∙◌, arith, Some, None}
 use Rattle.std.proofs.lemmas.Result.{err_from_is_err_and}
 use Rattle.model.specs.declared.Refusal.TheVariants.{Head}
 use Rattle.shape.specs.Limits.{reply_of}

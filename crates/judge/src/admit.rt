@@ -1,10 +1,10 @@
-// Judging a delivery: its refusals in the order of SPECIFICATION 6.3.
+// Judging a delivery on a book whose head is sound: the refusals that are left, in the order of SPECIFICATION 6.3.
 ghost use Rattle.std.specs.Prelude.{◌||◌, ◌≡◌, ltb, eqb};
 ghost use Rattle.model.specs.declared.Call.TheVariants as Call;
 ghost use Rattle.book.specs.Judgement.{opened_of, judgement, first_refusal};
-ghost use Rattle.judge.specs.Judge.{Due};
+ghost use Rattle.judge.specs.Judge.{Open, Due};
 
-use book::{Opened, block_full, block_sound, open};
+use book::{Opened, block_full, block_sound};
 use model::Refusal;
 
 // The largest volume.
@@ -42,12 +42,19 @@ fn judge_room(
     Ok(opened)
 }
 
-// 3, 4, 8 and 9 go by the numbers alone. Only then is the block read.
-pub fn judge_delivery(book: &[u32], grade: u32, stamp: u32, volume: u32) -> Result<Opened, Refusal>
+// 3, 4, 8 and 9, by the numbers alone. Only then is the block read.
+pub fn judge_delivery_in(
+    book: &[u32],
+    opened: Opened,
+    grade: u32,
+    stamp: u32,
+    volume: u32,
+) -> Result<Opened, Refusal>
+    requires { Open book.now opened.shape opened.clock }
     ensures { opened_of result ≡ judgement (first_refusal book.now (Call.Delivery grade stamp volume)) book.now }
 {
-    let opened = open(book)?;
-    let known = grade < u32::from(opened.shape.g);
+    let grades = opened.shape.g as u32;
+    let known = grade < grades;
     let outside = is_outside(volume);
     if !known {
         return Err(Refusal::Grade);

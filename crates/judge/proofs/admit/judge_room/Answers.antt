@@ -5,8 +5,8 @@ use Rattle.model.specs.declared.Call.TheVariants.{Delivery}
 use Rattle.book.specs.Head.{told_judgement}
 use Rattle.book.specs.Judgement.{first_refusal}
 use Rattle.judge.specs.Judge.{first_here, first_later, due_judges, due_inside}
-use Rattle.judge.proofs.delivery.judge_room.Goals as goal
-use Rattle.judge.proofs.delivery.judge_room.Goals.{After-block_full-full}
+use Rattle.judge.proofs.admit.judge_room.Goals as goal
+use Rattle.judge.proofs.admit.judge_room.Goals.{After-block_full-full}
 
 -- the refusals that are left, by the tests of the block
 room : (c : After-block_full-full) → let a = c.args in

@@ -1,15 +1,16 @@
 -- If the tests of the quick pass by rows hold, the buckets are sound, and no weight exceeds the largest that the pass may have seen. Assumes
 -- nothing.
-use Rattle.std.specs.Prelude.{true, List, ◌++◌, ◌≡◌, ℕ, zero, suc, ◌+◌, ◌-◌, ◌*◌, ◌/◌, ◌%◌, ◌^◌, ◌≤◌, ◌<◌, get_or, drop}
+use Rattle.std.specs.Prelude.{true, ◌&&◌, List, ◌++◌, ◌≡◌, ℕ, zero, suc, ◌+◌, ◌-◌, ◌*◌, ◌/◌, ◌%◌, ◌^◌, ◌≤◌, ◌<◌, leb, eqb, length, get_or, take, drop}
 use Rattle.std.proofs.Math.Path.{refl}
-use Rattle.std.proofs.Common.{sym, ap, ◌∙◌, add-zero, mul-le-mul_right, mod-eq_of_lt, arith, pow_mono, get_or-drop, drop-drop}
+use Rattle.std.proofs.Common.{sym, ap, ◌∙◌, add-zero, mul-le-mul_right, mod-eq_of_lt, arith, length-drop, pow_mono, get_or-drop, drop-drop, leb-true}
 use Rattle.std.specs.Int.Bits.{bit_or, bit_xor}
+use Rattle.shape.specs.LimitsLaws.{both}
 use Rattle.model.specs.Level.{Bucket}
 use Rattle.model.specs.Words.{slots}
 use Rattle.model.specs.Sound.{weight_of, sound_buckets}
 use Rattle.laws.specs.SoundLevel.{buckets_tests}
 use Rattle.laws.specs.LevelWords.{slots_all, length-slots}
-use Rattle.words.specs.Slot.{front, front_at, cons_same}
+use Rattle.words.specs.Slot.{front, front_at, cons_same, part_all, part-past}
 use Rattle.words.specs.Bits.{or_none, or_least, xor_none}
 use Rattle.pass_laws.specs.Pass.{least_of}
 use Rattle.pass_laws.proofs.PassLaws.{reached}
@@ -35,6 +36,43 @@ slots-row ws v base at j n c e h four room =
     (cons_same (sym (front_at ws v base (at + 6) (j + 1 + 1) e (omega (arith, h))))
     (cons_same (sym (front_at ws v base (at + 9) (j + 1 + 1 + 1) e (omega (arith, h))))
     (ap (λ (z : ℕ). slots ws z left) {x = j + 1 + 1 + 1 + 1} {y = n} (omega arith)))))
+
+-- ---- the loop over turns
+
+-- the invariant: some turns were made, and `rest` starts at the slot after them
+abbrev pub Turning : ℕ → ℕ → List ℕ → ℕ → Rows → List ℕ → ℕ → Type 0
+Turning least most ws count t rest at = ReadRows least most ws count t at × (rest ≡ drop (2 + 3 * at) ws)
+
+module _ (least most : ℕ) (ws : List ℕ) (count : ℕ) where
+  pub quick_turns-start : Turning least most ws count (begun (get_or ws 1 0) (get_or ws 3 0)) (take (length ws - 2) (drop 2 ws)) 0
+  quick_turns-start = (record { turned = 0; reads = refl; within = omega arith; rows = refl }, part_all ws 2)
+
+  -- sixteen slots are left at the front
+  pub quick_turns_room : (t : Rows) (rest : List ℕ) (at : ℕ) → Turning least most ws count t rest at → 2 + 3 * count ≤ length ws → at + 16 ≤ count → 48 ≤ length rest
+  quick_turns_room t rest at f room more = rw (f.1, length-drop (2 + 3 * at) ws) (omega (arith, room, more))
+
+  -- they are the slots from slot `at` on
+  quick_turn_words : (rest : List ℕ) (at n : ℕ) → rest ≡ drop (2 + 3 * at) ws → at ≡ 16 * n → rest ≡ drop (48 * n) (drop 2 ws)
+  quick_turn_words rest at n e h =
+      e ∙ ap (λ (z : ℕ). drop z ws) {x = 2 + 3 * at} {y = 2 + 48 * n} (omega (arith, h)) ∙ sym (drop-drop (48 * n) 2 ws)
+
+  pub quick_turns_next : (t : Rows) (rest : List ℕ) (at : ℕ) → Turning least most ws count t rest at → at + 16 ≤ count
+      → Turning least most ws count (quick_turn least most t rest) (take (length rest - 48) (drop 48 rest)) (at + 16)
+  quick_turns_next t rest at f more =
+      let r = f.0 in
+      let here = quick_turn_words rest at r.turned f.1 r.reads in (
+        record {
+          turned = suc r.turned;
+          reads = omega (arith, r.reads);
+          within = more;
+          rows = ap (λ (z : Rows). quick_turn least most z rest) r.rows ∙ ap (quick_turn least most _) here;
+        },
+        part-past rest ws (2 + 3 * at) 48 f.1 ∙ ap (λ (z : ℕ). drop z ws) {x = 2 + 3 * at + 48} {y = 2 + 3 * (at + 16)} (omega arith),
+      )
+
+-- the loop goes on only if sixteen slots are left
+pub goes_room : (gap at count : ℕ) → (leb (at + 16) count && eqb gap 0) ≡ true → at + 16 ≤ count
+goes_room gap at count e = leb-true (at + 16) count (both {a = leb (at + 16) count} {b = eqb gap 0} e).0
 
 -- the slots after the turns, one by one
 pub rows_rest : (least most : ℕ) (ws : List ℕ) (count : ℕ) (t : Rows) (at : ℕ) (j r : Quick) → ReadRows least most ws count t at → j ≡ join_rows t

@@ -8,7 +8,7 @@ pub quick_buckets-t-requires : goal.quick_buckets-t-requires
 quick_buckets-t-requires c =
     let a = c.args in
     let p = (is_tried_tests a.count a.i).0 (rw c.is_tried.ensures at c.if-is_tried.true) in
-    (omega (arith, c.requires), p.1)
+    (omega (arith, c.requires), omega (arith, c.requires), p.1)
 
 pub returns-then-is_bounded : goal.returns-then-is_bounded
 returns-then-is_bounded c =
@@ -32,7 +32,7 @@ pub quick_buckets-t-requires-else-first-gt0 : goal.quick_buckets-t-requires-else
 quick_buckets-t-requires-else-first-gt0 c =
     let a = c.args in
     let p = (is_tried_tests a.count a.i).0 (rw c.is_tried.ensures at c.if-is_tried.true) in
-    (omega (arith, c.requires), p.1)
+    (omega (arith, c.requires), omega (arith, c.requires), p.1)
 
 pub returns-then-is_enough-2 : goal.returns-then-is_enough-2
 returns-then-is_enough-2 c =

@@ -14,7 +14,6 @@ use model::Refusal;
 use order::is_mergeable;
 use trace::is_sound_trace;
 use two_way::merge_records;
-use words::both;
 
 // Whether x and y make up the sum. x + y might not fit a usize.
 fn is_sum(sum: usize, x: usize, y: usize) -> bool
@@ -28,8 +27,7 @@ fn merge_days(a: &[u32], b: &[u32], out: &mut [u32]) -> Result<(), Refusal>
     requires { (sound_day a.now ≡ true) × (sound_day b.now ≡ true) }
     ensures { outcome_of (done_reply result) out.new ≡ merge_days a.now b.now out.old }
 {
-    // `both`, not `&&`: one value for each pair of tests, which the refusals below take in their order, as the proof does.
-    let ordered = both(is_mergeable(a), is_mergeable(b));
+    let ordered = is_mergeable(a) & is_mergeable(b);
     let fits = is_sum(out.len(), a.len(), b.len());
     if !ordered {
         return Err(Refusal::Order);
@@ -69,9 +67,8 @@ fn merge_first(
 ) -> Result<(), Refusal>
     ensures { outcome_of (done_reply result) out.new ≡ merge_first first.now i second.now j out.old }
 {
-    // `both`, not `&&`: as in `merge_days`.
-    let sound = both(is_sound_trace(first), is_sound_trace(second));
-    let there = both(has_day(first, i), has_day(second, j));
+    let sound = is_sound_trace(first) & is_sound_trace(second);
+    let there = has_day(first, i) & has_day(second, j);
     if !sound {
         return Err(Refusal::Trace);
     }

@@ -7,7 +7,7 @@ ghost use Rattle.pass_laws.specs.Pass.{unseen, below, spread, see_single, see_bu
 
 use pass_laws::{Seen, Verdict};
 use shape::SLOT_LEN;
-use words::{Slot, both, implied, power};
+use words::{Slot, implied, power};
 
 // Before the first bucket.
 fn unseen(first: u32) -> Seen
@@ -121,8 +121,7 @@ fn sound_seen(t: Seen, first: u32, k: u8, i: u8) -> bool
     let top = power(k);
     let high = 2 * power(i);
     let ended = implied(0 < i, t.end == top);
-    let held = both(t.heavy < high, both(t.short == 0, ended));
-    both(first < top, both(t.faults == 0, both(t.reach < top, held)))
+    (first < top) & (t.faults == 0) & (t.reach < top) & (t.heavy < high) & (t.short == 0) & ended
 }
 
 // Exact verdict and weight.

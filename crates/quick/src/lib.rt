@@ -11,7 +11,7 @@ use pass::{judge_seen, least_of};
 use quick_laws::Quick;
 use shape::SLOT_LEN;
 use turns::quick_buckets;
-use words::{Slot, both, implied, power, slots};
+use words::{Slot, implied, power, slots};
 
 // The sum of the weights modulo 2 ^ 32.
 fn weight_of(slots: &[[u32; SLOT_LEN]]) -> u32
@@ -43,14 +43,7 @@ fn is_enough(t: Quick, first: u32, k: u8) -> bool
     ensures { result ≡ is_enough k first t }
 {
     let top = power(k);
-    let small = t.extra < 2097152;
-    both(
-        first < top,
-        both(
-            t.faults == 0,
-            both(t.reach / 2 < top, both(t.end == top, small)),
-        ),
-    )
+    (first < top) & (t.faults == 0) & (t.reach / 2 < top) & (t.end == top) & (t.extra < 2097152)
 }
 
 // Whether the quick pass is tried: only if the least weight is at most 2 ^ 20, since then 1024 weights that pass its tests add up to less
@@ -59,7 +52,7 @@ fn is_tried(count: usize, i: u8) -> bool
     requires { i ≤ 24 }
     ensures { result ≡ is_tried count i }
 {
-    both(0 < i, both(0 < count, least_of(count, i) <= 1048576))
+    (0 < i) & (0 < count) & (least_of(count, i) <= 1048576)
 }
 
 // Whether `count` weights, each at most `extra` above `least`, are at most the total together.
@@ -75,7 +68,7 @@ fn is_bounded(least: u32, extra: u32, count: usize, total: u64) -> bool
 fn weighs(weight: u64, first: u32, total: u64) -> bool
     ensures { result ≡ weighs first total weight }
 {
-    both(weight <= total, implied(first == 0, weight == total))
+    (weight <= total) & implied(first == 0, weight == total)
 }
 
 // Whether a level's buckets are sound and weigh what its half's total asks. The quick pass answers if its tests hold. If F is above 0 the
@@ -108,5 +101,5 @@ pub fn sound_buckets(level: &[u32], count: usize, k: u8, i: u8, total: u64) -> b
     }
     let v = judge_seen(slots(level, count), first, k, i);
     let right = weighs(v.weight, first, total);
-    both(v.sound, right)
+    v.sound & right
 }

@@ -8,7 +8,7 @@ ghost use Rattle.model.specs.Sound.{zeros, sound_level};
 
 use quick::sound_buckets;
 use shape::{LEVEL_HEAD_LEN, SLOT_LEN, Shape};
-use words::{both, implied};
+use words::implied;
 
 // The joined bits of the words of a, b and c and of as many words of d. With four streams at once the compiler takes eight vectors a turn.
 fn joined(a: &[u32], b: &[u32], c: &[u32], d: &[u32]) -> u32
@@ -66,5 +66,5 @@ pub fn sound_level(level: &[u32], s: Shape, i: u8, total: u64) -> bool
     }
     let unused = is_zero(level, LEVEL_HEAD_LEN + SLOT_LEN * count);
     let right = sound_buckets(level, count, s.k, i, total);
-    both(unused, both(right, implied(0 < first, count == n)))
+    unused & right & implied(0 < first, count == n)
 }

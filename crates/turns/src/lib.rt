@@ -8,7 +8,7 @@ ghost use Rattle.quick_laws.specs.Rows.{join_rows, ReadRows, ByRows};
 
 use quick_laws::{Quick, Rows};
 use row::{quick_bucket, quick_turn};
-use words::{both, slot_at};
+use words::slot_at;
 
 // Before the first bucket, which has this width.
 fn fresh(first: u32, width: u32) -> Quick
@@ -52,7 +52,7 @@ fn goes_on(t: Rows, at: usize, count: usize) -> bool
     requires { at ≤ 1024 }
     ensures { result ≡ (nat_le (at + 16) count && t.gap == 0) }
 {
-    both(at + 16 <= count, t.gap == 0)
+    (at + 16 <= count) & (t.gap == 0)
 }
 
 // The rows, and how many slots they have read.

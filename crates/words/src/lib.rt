@@ -1,7 +1,7 @@
-// What several crates do with words: a power of two, the words of a slot, and two Booleans joined.
+// What several crates do with words: a power of two, whether one test implies another, and the words of a slot.
 #![tactic(auto)]
 
-ghost use Rattle.std.specs.Prelude.{◌≡◌, ◌&&◌, ◌+◌, ◌*◌, ◌^◌, ◌<◌, ◌≤◌, length, drop, map};
+ghost use Rattle.std.specs.Prelude.{◌≡◌, ◌+◌, ◌*◌, ◌^◌, ◌<◌, ◌≤◌, length, drop, map};
 ghost use Rattle.shape.specs.Layout.{slot_len, slot_start};
 ghost use Rattle.model.specs.Words.{slot, slots};
 ghost use Rattle.model.specs.Sound.{implies};
@@ -16,12 +16,7 @@ pub fn power(k: u8) -> u32
     1 << k
 }
 
-pub fn both(a: bool, b: bool) -> bool
-    ensures { result ≡ (a && b) }
-{
-    if a { b } else { false }
-}
-
+// Whether b holds where a does.
 pub fn implied(a: bool, b: bool) -> bool
     ensures { result ≡ implies a b }
 {

@@ -1,5 +1,6 @@
 -- The code makes each test of the definition once.
 use Rattle.std.proofs.Common.{◌≡◌, suc, ◌*◌, ◌^◌, arith, pow_mono}
+use Rattle.std.proofs.Math.Bool.{and_assoc}
 use Rattle.pass_laws.specs.Pass.{sound_seen}
 use Rattle.pass.proofs.sound_seen.Goals as goal
 
@@ -10,13 +11,4 @@ pub returns : goal.returns
 unfolding sound_seen
 returns c =
     let double : 2 * c.power-high.result ≡ 2 ^ suc c.args.i = omega (arith, c.power-high.ensures) in
-    rw (
-      c.both-4.ensures,
-      c.both-3.ensures,
-      c.both-2.ensures,
-      c.both-held.ensures,
-      c.both.ensures,
-      c.implied-ended.ensures,
-      double,
-      c.power-top.ensures,
-    )
+    simp (c.implied-ended.ensures, double, c.power-top.ensures, and_assoc)

@@ -47,4 +47,4 @@ returns-then-is_enough-2 c =
 pub returns : goal.returns
 returns c =
     let v = rw c.slots-2.ensures.0 at c.judge_seen-v.ensures in
-    rw (c.both.ensures, c.weighs-right.ensures, v.1, v.0)
+    rw (c.weighs-right.ensures, v.1, v.0)

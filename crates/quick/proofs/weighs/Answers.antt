@@ -2,4 +2,4 @@
 use Rattle.quick.proofs.weighs.Goals as goal
 
 pub returns : goal.returns
-returns c = rw (c.both.ensures, c.implied.ensures)
+returns c = rw c.implied.ensures

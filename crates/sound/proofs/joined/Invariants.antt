@@ -1,9 +1,8 @@
 -- Invariant: the bits so far are 0 and the words of all four parts from `at` on are zero exactly if all are.
 use mathlib.Core.Bool.{◌&&◌}
 use mathlib.Core.Path.{◌≡◌}
-use Prim.Native.Nat.{◌-◌, ◌≤◌}
 use lib.Dec.{eqb}
-use lib.ListN.{length, drop}
+use lib.ListN.{drop}
 use Rattle.model.specs.Sound.{zeros}
 use Rattle.sound.proofs.joined.Given as goal
 

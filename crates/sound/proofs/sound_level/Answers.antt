@@ -1,5 +1,6 @@
 -- Each test is one conjunct of `sound_level`.
 use mathlib.Core.Bool.{Bool, true, false, ◌&&◌}
+use Rattle.std.proofs.Math.Bool.{and_assoc}
 use mathlib.Core.Path.{◌≡◌, refl, ap}
 use lib.Dec.{leb, ltb, eqb}
 use lib.ListN.{get_or, drop}
@@ -34,8 +35,7 @@ returns c =
     let bs = slots ws 0 count in
     let weight = weight_of bs in
     rw (
-      c.both-2.ensures,
-      c.both.ensures,
+      and_assoc,
       c.implied.ensures,
       c.sound_buckets-right.ensures,
       c.is_zero-unused.ensures,

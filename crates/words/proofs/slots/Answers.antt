@@ -1,5 +1,5 @@
 -- The chunks of three words after the head are the slots.
-use Rattle.std.proofs.Common.{◌≡◌, ◌-◌, ◌*◌, ◌/◌, ◌≤◌, List, ℕ, length, drop, take, ap, ◌∙◌, arith, length-drop, map}
+use Rattle.std.proofs.Common.{◌≡◌, ◌/◌, ◌≤◌, length, drop, take, ap, ◌∙◌, arith, length-drop, map}
 use Rattle.std.specs.Simd.{first_chunks}
 use Rattle.words.specs.Slot.{front, part_all, chunks_taken, length-chunks, chunks-slots}
 use Rattle.words.proofs.slots.Goals as goal

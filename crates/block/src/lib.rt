@@ -12,8 +12,8 @@ ghost use Rattle.block.specs.Steps.{LevelIn};
 use shape::Shape;
 use stamp::{interval, offset, opening, parity};
 
-// A block's words and the shape stay two parameters: docs/ARCHITECTURE.md names `check`, `finest` and `window_sum`, so no type with an invariant
-// may stand in their place.
+// A block's words and its shape stay two parameters. `erase` and `fill` write the same words, so a type that holds both would be needed twice,
+// shared and exclusive, and `Sized` and `Whole`, which laws cite, would go on naming the two apart.
 
 // How many decilitres a half takes at most.
 fn capacity(s: Shape) -> u64

@@ -9,8 +9,8 @@ ghost use Rattle.book.specs.Part.{InBook};
 
 use shape::Shape;
 
-// The book, the shape and the grade stay three parameters: docs/ARCHITECTURE.md names this crate, so no type with an invariant may stand in their
-// place.
+// The book, the shape and the grade stay three parameters: `sweep` and `summary` write the same words, so a type that holds them would be needed
+// twice, shared and exclusive.
 
 // The words of a grade's block, as a part of the book.
 #[tactic(auto, using(crate::specs::Part::block_within))]

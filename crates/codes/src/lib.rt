@@ -25,7 +25,7 @@ pub fn answer_number<T: Drop>(answer: Result<T, Refusal>) -> u32
     }
 }
 
-// Which case it is.
+// Which case it is, as C is told.
 pub fn finer_case(finer: Finer) -> u64
     ensures { result ≡ get_or (finer_values finer) 0 0 }
 {

@@ -2,6 +2,7 @@
 // number); the answer to an accepted call; the ground of a sum (SPECIFICATION 20); and a record of a trace (SPECIFICATION 16.2).
 #![tactic(auto)]
 
+// The numbers of a call stay apart, here and where functions take them: the calls from C have them one by one, and so has every definition.
 #[derive(Clone, Copy)]
 pub enum Call {
     Make { k: u32, n: u32, m: u32, g: u32 },

@@ -2,6 +2,7 @@
 // slots at a time. So everything is in words of 32 bits and is tested once a level.
 #![tactic(auto)]
 
+// The bounds of `short` and `high` are no invariant of the type: they grow with each bucket, and each step says by how much.
 #[derive(Clone, Copy)]
 pub struct Seen {
     // Where the next bucket must start; at level 0 the least offset that it may have.

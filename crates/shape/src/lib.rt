@@ -18,7 +18,8 @@ pub const LEVEL_HEAD_LEN: usize = 2;
 pub const SLOT_LEN: usize = 3;
 
 // The shape of a book: SPECIFICATION 2.2. Only what `Shape::new` gives is held to the limits, and only that has the lengths of SPECIFICATION
-// 3.6. Every method is defined on any fields.
+// 3.6. Every method is defined on any fields, and definitions speak of shapes outside the limits (`shape_of`). So the limits are no invariant of
+// the type, and what needs k, n or a level within them says so.
 #[derive(Clone, Copy)]
 pub struct Shape {
     // An interval is 2 ^ k ticks.

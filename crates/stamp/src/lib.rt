@@ -24,7 +24,7 @@ pub fn offset(s: Shape, t: u32) -> u32
     t % power(s.k)
 }
 
-// The parity of the half that serves an interval.
+// The parity of the half that serves an interval: a number and no enum, since the place of a level is computed from it.
 pub fn parity(j: u32) -> u8
     ensures { result ≡ j % 2 }
 {

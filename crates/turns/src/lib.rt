@@ -101,6 +101,7 @@ fn join_rows(t: Rows) -> Quick
     }
 }
 
+// The level and the count of its slots stay two parameters: a turn reads 48 words at once, and not slot by slot.
 pub fn quick_buckets(level: &[u32], count: usize, least: u32, most: u32) -> Quick
     requires { (2 + 3 * count ≤ length level.now) × (count ≤ 1024) × (0 < count) }
     ensures { ByRows least most level.now count result }

@@ -7,10 +7,8 @@ ghost use Rattle.session.specs.Protocol.{zero_buffer};
 use std::io::{Read, Write};
 
 // Writes out the bytes that wait. A write that fails loses its bytes.
-fn write_out(rt: &HostRuntime, out: &[u8], used: usize)
-    requires { used ≤ length out.now }
-{
-    let _ = rt.stdout().write_all(&out[..used]);
+fn write_out(rt: &HostRuntime, out: &[u8]) {
+    let _ = rt.stdout().write_all(out);
 }
 
 // Reads the next bytes. Returns how many there are: none if the input has ended or cannot be read.
@@ -32,11 +30,11 @@ fn serve(rt: &HostRuntime, book: &mut [u32], out: &mut [u8], chunk: &mut [u8])
             break;
         }
         let fed = session::feed(book, out, session, &chunk[..n]);
-        write_out(rt, &out[..], fed.used);
+        write_out(rt, &out[..fed.used]);
         session = session::written_out(fed);
     }
     let last = session::end_input(book, out, session);
-    write_out(rt, &out[..], last.used);
+    write_out(rt, &out[..last.used]);
 }
 
 #[tactic(auto, unfolding(session::specs::Protocol::zero_buffer))]

@@ -15,8 +15,8 @@ pub struct Quick {
     pub extra: u32,
 }
 
-// What the quick pass has collected in four rows of slots at once, each for itself. The rows are no array: `begun` and `quick_turn` give each
-// one words of its own, so each would still be named, by a number.
+// What the quick pass has collected in four rows of slots at once, each for itself. The rows are no array: the turn that begins and
+// `quick_turn` give each one words of its own, so each would still be named, by a number.
 #[derive(Clone, Copy)]
 pub struct Rows {
     pub one: Quick,

@@ -1,5 +1,6 @@
 -- What the search for the slot of an offset relies on. Assumes nothing.
-use Rattle.std.specs.Prelude.{Bool, true, false, ◌&&◌, List, [], ◌≡◌, ℕ, zero, suc, ◌+◌, ◌-◌, ◌≤◌, ◌<◌, leb, ltb, length, get_or, take, drop, map}
+use Rattle.std.specs.Prelude.{Bool, true, false, ◌&&◌, List, [], ◌≡◌, map, ℕ, zero, suc, ◌+◌, ◌-◌, ◌≤◌, ◌<◌, leb, ltb}
+use Rattle.std.specs.Prelude.{length, get_or, take, drop}
 use Rattle.std.specs.List.Sorted.{IsPartitionedBy, IsPartitionPoint}
 use Rattle.std.proofs.Common.{ap, sym, inl, inr, ◌∙◌, add-zero, arith, length-drop, get_or-drop, leb-true, leb-false, ltb-true, ltb-false, le-leb}
 use Rattle.std.proofs.lemmas.Bool.{cases_lt}
@@ -38,16 +39,19 @@ slots-at ws j (suc c) (suc m) none h = let e : j + suc m ≡ j + 1 + m = omega a
 abbrev pub ends_by : ℕ → List ℕ → Bool  -- the bucket of a slot's words ends at or before offset x
 ends_by x words = leb (end_of (front words)) x
 
--- the slots of a level, and the part of them from `low` to `high`
+-- `all` is the words of a level's slots, and the search is in the part of them from `low` to `high`
 module _ (ws : List ℕ) (x : ℕ) (all : List (List ℕ)) (low high : ℕ) (read : map front all ≡ slots ws 0 (get_or ws 0 0))
     (whole : length all ≡ get_or ws 0 0) (inside : high ≤ length all) where
   at : (m : ℕ) (d : List ℕ) → low + m < high → end_of (front (get_or (take (high - low) (drop low all)) m d)) ≡ end_of (slot ws (low + m))
   at m d h =
-      let here : get_or (map front all) (low + m) (front d) ≡ front (get_or all (low + m) d) = get_or-map front all (low + m) d (front d) (omega arith) in
-      let there : get_or (map front all) (low + m) (front d) ≡ slot ws (low + m) =
-      ap (λ (bs : List Bucket). get_or bs (low + m) (front d)) read ∙ slots-at ws 0 (get_or ws 0 0) (low + m) (front d) (omega arith) ∙ ap (slot ws) {x = 0 + (low + m)} {y = low + m} (omega arith) in
-      ap end_of (ap front (get_or-take (high - low) (drop low all) m d (omega arith) ∙ get_or-drop low all m d) ∙ sym here ∙ there)
+      let k = low + m in
+      let there : front (get_or all k d) ≡ slot ws k =
+      sym (get_or-map front all k d (front d) (omega arith))
+      ∙ ap (λ (bs : List Bucket). get_or bs k (front d)) read
+      ∙ slots-at ws 0 (get_or ws 0 0) k (front d) (omega arith) ∙ ap (slot ws) {x = 0 + k} {y = k} (omega arith) in
+      ap end_of (ap front (get_or-take (high - low) (drop low all) m d (omega arith) ∙ get_or-drop low all m d) ∙ there)
 
+  -- in the part, the buckets that end at or before x come before the others
   pub parted : EndsRise 0 (decode_level ws).buckets → IsPartitionedBy (ends_by x) (take (high - low) (drop low all))
   parted rises i j d le lt e =
       let few = length-take (high - low) (drop low all) in
@@ -58,7 +62,9 @@ module _ (ws : List ℕ) (x : ℕ) (all : List (List ℕ)) (low high : ℕ) (rea
         | inr ended ↦ le-leb _ x (omega (arith, at i d (omega arith)))
       ]
 
-  pub found : EndsRise 0 (decode_level ws).buckets → (i : ℕ) → low ≤ slot_of x (decode_level ws).buckets → slot_of x (decode_level ws).buckets ≤ high
+  -- so if the slot of x is in the part, it comes after those
+  pub found : EndsRise 0 (decode_level ws).buckets → (i : ℕ)
+      → low ≤ slot_of x (decode_level ws).buckets → slot_of x (decode_level ws).buckets ≤ high
       → i ≤ length (take (high - low) (drop low all))
       → IsPartitionPoint (λ w. ends_by x w ≡ true) (λ w. ends_by x w ≡ false) (take (high - low) (drop low all)) i
       → low + i ≡ slot_of x (decode_level ws).buckets

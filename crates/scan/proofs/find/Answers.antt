@@ -1,4 +1,5 @@
-use Rattle.std.proofs.Common.{◌≡◌, ◌≤◌, ◌-◌, length, take, drop, rules, arith}
+-- The span holds the slot, and in it the buckets that end at or before x come first.
+use Rattle.std.proofs.Common.{◌≤◌, ◌-◌, length, take, drop, rules, arith}
 use Rattle.model.specs.Words.{decode_level}
 use Rattle.std.proofs.lemmas.List.Sorted.{IsPartitionPoint-from_clause}
 use Rattle.scan.specs.Search.{ends_by, parted, found}
@@ -15,4 +16,5 @@ returns c =
     let part = take (span.result.high - span.result.low) (drop span.result.low all) in
     let point = IsPartitionPoint-from_clause (ends_by a.x) part _ c.partition_point.ensures.partitioned
     (parted a.level.now a.x all span.result.low span.result.high read.0 read.1 inside c.requires.1) (λ w r f k. search rules) in
-    found a.level.now a.x all span.result.low span.result.high read.0 read.1 inside c.requires.1 _ span.ensures.0 span.ensures.1 c.partition_point.ensures.bound point
+    found a.level.now a.x all span.result.low span.result.high read.0 read.1 inside c.requires.1 _
+    span.ensures.0 span.ensures.1 c.partition_point.ensures.bound point

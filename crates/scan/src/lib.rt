@@ -36,6 +36,7 @@ struct Span {
 }
 
 // A span for offset x. It is searched from the upper end, in steps that double, because most offsets are near that end.
+// Takes the level and not its slots, since the theorems `past-most` and `past-least` speak of a level's words.
 fn gallop(level: &[u32], x: u32) -> Span
     requires { EndsRise 0 (decode_level level.now).buckets × (slot_start (get_or level.now 0 0) ≤ length level.now) }
     ensures { Spans x level.now result }
@@ -55,23 +56,14 @@ fn gallop(level: &[u32], x: u32) -> Span
     }
 }
 
-// How many leading buckets end at or before offset x: the slot of the first that ends after it, or the count. Bisects the span.
+// How many leading buckets end at or before offset x: the slot of the first that ends after it, or the count.
 pub fn find(level: &[u32], x: u32) -> usize
     requires { (slot_start (get_or level.now 0 0) ≤ length level.now) × EndsRise 0 (decode_level level.now).buckets }
     ensures { result ≡ slot_of x (decode_level level.now).buckets }
 {
     let span = gallop(level, x);
-    let mut low = span.low;
-    let mut high = span.high;
-    while low < high {
-        let mid = low + (high - low) / 2;
-        if u64::from(x) < end(slot_at(level, mid)) {
-            high = mid;
-        } else {
-            low = mid + 1;
-        }
-    }
-    low
+    let searched = &slots(level, level[0] as usize)[span.low..span.high];
+    span.low + searched.partition_point(|words| end(Slot::from(words)) <= u64::from(x))
 }
 
 // What a bucket adds to the sum from offset a on.

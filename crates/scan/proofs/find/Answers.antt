@@ -1,28 +1,20 @@
-use mathlib.Core.Path.{◌≡◌, ap, ◌∙◌}
-use Prim.Native.Nat.{◌+◌, ◌-◌, ◌/◌}
-use native.Mathlib.Omega.{arith}
-use Rattle.model.specs.Words.{slot}
-use Rattle.laws.specs.SlotOf.{end_of, slot-most, slot-least}
+-- The span holds the slot, and in it the buckets that end at or before x come first.
+use Rattle.std.proofs.Common.{◌≤◌, ◌-◌, length, take, drop, rules, arith}
+use Rattle.model.specs.Words.{decode_level}
+use Rattle.std.proofs.lemmas.List.Sorted.{IsPartitionPoint-from_clause}
+use Rattle.scan.specs.Search.{ends_by, parted, found}
 use Rattle.scan.proofs.find.Goals as goal
-use Rattle.scan.proofs.find.Goals.{After-end}
 
-pub loop-low-init : goal.loop-low-init
-loop-low-init c = c.gallop-span.ensures
-
--- where the bucket in the middle ends
-ends : (c : After-end) →
-    let low = c.loop-low.low in
-    c.end.result ≡ end_of (slot c.args.level.now (low + (c.loop-low.high - low) / 2))
-ends c = c.end.ensures ∙ ap end_of c.slot_at.ensures
-
-pub loop-low-preserved-then-from-end : goal.loop-low-preserved-then-from-end
-loop-low-preserved-then-from-end c =
+pub returns : goal.returns
+unfolding decode_level
+returns c =
     let a = c.args in
-    let low = c.loop-low.low in
-    omega (arith, slot-most a.level.now a.x (low + (c.loop-low.high - low) / 2) (omega arith) (omega (arith, ends (goal.at.loop-low-preserved-then-from-end c).After-end)))
-
-pub loop-low-preserved : goal.loop-low-preserved
-loop-low-preserved c =
-    let a = c.args in
-    let low = c.loop-low.low in
-    omega (arith, slot-least a.level.now a.x (low + (c.loop-low.high - low) / 2) (omega arith) c.requires.1 (omega (arith, ends (goal.at.loop-low-preserved c).After-end)))
+    let span = c.gallop-span in
+    let all = c.slots.result.now in
+    let read = c.slots.ensures in
+    let inside : span.result.high ≤ length all = omega arith in
+    let part = take (span.result.high - span.result.low) (drop span.result.low all) in
+    let point = IsPartitionPoint-from_clause (ends_by a.x) part _ c.partition_point.ensures.partitioned
+    (parted a.level.now a.x all span.result.low span.result.high read.0 read.1 inside c.requires.1) (λ w r f k. search rules) in
+    found a.level.now a.x all span.result.low span.result.high read.0 read.1 inside c.requires.1 _
+    span.ensures.0 span.ensures.1 c.partition_point.ensures.bound point

@@ -1,11 +1,9 @@
-use mathlib.Core.Path.{ap, sym, ◌∙◌}
-use mathlib.Core.List.{map}
+use mathlib.Core.Path.{ap}
 use Prim.Native.Nat.{◌≤◌}
 use native.Mathlib.Omega.{arith}
 use lib.ListN.{length, drop_of_length-le}
 use Rattle.model.specs.Words.{decode_level}
 use Rattle.model.specs.Block.{sum_from}
-use Rattle.words.specs.Slot.{front}
 use Rattle.scan.proofs.sum_from.Goals as goal
 
 pub returns : goal.returns

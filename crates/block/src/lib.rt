@@ -12,8 +12,9 @@ ghost use Rattle.block.specs.Steps.{LevelIn};
 use shape::Shape;
 use stamp::{interval, offset, opening, parity};
 
-// A block's words and its shape stay two parameters. `erase` and `fill` write the same words, so a type that holds both would be needed twice,
-// shared and exclusive, and `Sized` and `Whole`, which laws cite, would go on naming the two apart.
+// A block's words and its shape stay two parameters. A struct of both with `Sized` as its ghost field was tried: each clause then says
+// `self.entry.words.now` and `self.entry.shape` for `block.now` and `s`, `Whole` stays a clause, and `erase` and `fill`, which write the same
+// words, need a second type. So it is no plainer.
 
 // How many decilitres a half takes at most.
 fn capacity(s: Shape) -> u64

@@ -21,7 +21,8 @@ fn mask(x: u32, y: u32) -> u32
     }
 }
 
-// A bucket whose weight must be `least` or more and, if it is wider than 1, at most `most` above that.
+// A bucket whose weight must be `least` or more and, if it is wider than 1, at most `most` above that. The two stay two parameters, as the
+// definitions have them: a struct of both would only name them again in each clause.
 pub fn quick_bucket(t: Quick, b: Slot, least: u32, most: u32) -> Quick
     ensures { result ≡ quick_bucket least most t (content b) }
 {

@@ -58,7 +58,7 @@ pub fn is_sound_trace(trace: &[u32]) -> bool
     are_sound_days(trace, days)
 }
 
-// Where a day lies, or why there is none.
+// Where a day lies, or why there is none. Trace and day stay two parameters, here and in `merge` and `replay`: the calls from C have them so.
 pub fn judge_day(trace: &[u32], day: u32) -> Result<Pair, Refusal>
     ensures { found_of result ≡ day_reply trace.now day }
 {

@@ -33,7 +33,7 @@ impl Taken {
     }
 }
 
-// Where the merge stands in both days.
+// Where the merge stands in both days. Their words stay two slices beside it, as the definitions have them.
 #[derive(Clone, Copy)]
 pub struct Place {
     pub first: Taken,

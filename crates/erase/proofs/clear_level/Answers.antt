@@ -6,9 +6,9 @@ use Rattle.erase.proofs.clear_level.Goals as goal
 
 pub returns-then-i-gt0 : goal.returns-then-i-gt0
 returns-then-i-gt0 c =
-    rw (c.power.ensures, c.zero.ensures, c.requires.0) (empty_upper c.args.s.n c.args.s.k c.args.i (omega arith) c.if-i-gt0.true)
+    rw (c.power.ensures, c.fill.ensures.after (λ y e. e), c.requires.0) (empty_upper c.args.s.n c.args.s.k c.args.i (omega arith) c.if-i-gt0.true)
 
 pub returns-else-i-gt0 : goal.returns-else-i-gt0
 returns-else-i-gt0 c =
     let none : c.args.i ≡ 0 = omega arith in
-    rw (c.zero.ensures, c.requires.0, none) (empty_lowest c.args.s.n c.args.s.k)
+    rw (c.fill.ensures.after (λ y e. e), c.requires.0, none) (empty_lowest c.args.s.n c.args.s.k)

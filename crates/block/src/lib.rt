@@ -11,6 +11,7 @@ ghost use Rattle.block.specs.Steps.{LevelIn};
 
 use shape::Shape;
 use stamp::{interval, offset, opening, parity};
+use words::power;
 
 // A block's words and its shape stay two parameters. A struct of both with `Sized` as its ghost field was tried: each clause then says
 // `self.entry.words.now` and `self.entry.shape` for `block.now` and `s`, `Whole` stays a clause, and `erase` and `fill`, which write the same
@@ -21,7 +22,7 @@ fn capacity(s: Shape) -> u64
     requires { s.m ≤ 31 }
     ensures { result ≡ 2 ^ s.m }
 {
-    1 << s.m
+    u64::from(power(s.m))
 }
 
 // The words of a level, in the half of a parity.

@@ -19,13 +19,7 @@ fn is_blank(book: &[u32]) -> bool
     requires { head_len ≤ length book.now }
     ensures { result ≡ is_blank book.now }
 {
-    if book[5] != 0 {
-        return false;
-    }
-    if book[6] != 0 {
-        return false;
-    }
-    book[7] == 0
+    (book[5] == 0) & (book[6] == 0) & (book[7] == 0)
 }
 
 // A book of this shape: tests its clock, the last words of its head and its length.

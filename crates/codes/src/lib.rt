@@ -9,6 +9,7 @@ ghost use Rattle.model.specs.Ground.{finer_values};
 
 use model::{Finer, Refusal};
 
+// No `From`: it would have to stand in `model`, which has no function.
 pub fn number(why: Refusal) -> u32
     ensures { result ≡ number_of why }
 {
@@ -36,13 +37,13 @@ pub fn finer_case(finer: Finer) -> u64
     }
 }
 
-// F of the next finer level, 0 in the other cases.
+// F of the next finer level, 0 in the other cases, as C is told.
 pub fn finer_first(finer: Finer) -> u64
     ensures { result ≡ get_or (finer_values finer) 1 0 }
 {
     match finer {
         Finer::WindowZero => 0,
         Finer::LevelZero => 0,
-        Finer::First(first) => first as u64,
+        Finer::First(first) => u64::from(first),
     }
 }

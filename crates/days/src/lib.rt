@@ -36,6 +36,7 @@ pub fn day_at(trace: &[u32], pair: Pair) -> &[u32]
     &trace[start..end]
 }
 
+// By the number of the record, as the definitions have it. No `From` the four words: it would have to stand in `model`, which has no function.
 pub fn record_at(day: &[u32], i: usize) -> Record
     requires { record_words * (i + 1) ≤ length day.now }
     ensures { result ≡ record_at day.now i }

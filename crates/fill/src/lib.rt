@@ -24,7 +24,8 @@ fn insert_at(block: &mut [u32], s: Shape, parity: u8, i: u8, x: u32, v: u64) -> 
     insert::insert(&mut block[a..e], s, i, x, v)
 }
 
-// Raises the total of the half and inserts into each of its levels. Returns the number of splits over all of them.
+// Raises the total of the half and inserts into each of its levels. Returns the number of splits over all of them. Its numbers stay apart, as
+// `deliver` and `insert` of the definitions have them.
 fn fill(block: &mut [u32], s: Shape, stamp: u32, parity: u8, x: u32, v: u64) -> u32
     requires { Fills s stamp parity x v block.old }
     ensures words { block.new ≡ encode_block s (deliver s stamp v (decode_block s block.old)) }

@@ -51,17 +51,3 @@ pub finer_two : (f : Finer) → get_or (finer_values f) 0 0 ∷ get_or (finer_va
 finer_two WindowZero = refl
 finer_two LevelZero = refl
 finer_two (First first) = refl
-
--- after four writes the fifth place is still there
-pub fifth_there : (l : List ℕ) (a b c d : ℕ) → length l ≡ 5 → 4 < length (set (set (set (set l 0 a) 1 b) 2 c) 3 d)
-fifth_there l a b c d h = rw (length-set, length-set, length-set, length-set, h) (omega arith)
-
--- five places written one after another
-pub all_five : (l : List ℕ) (a b c d e : ℕ) → length l ≡ 5 → set (set (set (set (set l 0 a) 1 b) 2 c) 3 d) 4 e ≡ a ∷ b ∷ c ∷ d ∷ e ∷ []
-all_five [] a b c d e h = absurd (omega arith)
-all_five (u ∷ []) a b c d e h = absurd (omega arith)
-all_five (u ∷ v ∷ []) a b c d e h = absurd (omega arith)
-all_five (u ∷ v ∷ w ∷ []) a b c d e h = absurd (omega arith)
-all_five (u ∷ v ∷ w ∷ x ∷ []) a b c d e h = absurd (omega arith)
-all_five (u ∷ v ∷ w ∷ x ∷ y ∷ []) a b c d e h = refl
-all_five (u ∷ v ∷ w ∷ x ∷ y ∷ z ∷ l) a b c d e h = absurd (omega arith)

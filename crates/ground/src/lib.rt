@@ -8,7 +8,7 @@ ghost use Rattle.laws.specs.Proper.{Whole};
 ghost use Rattle.block.specs.Steps.{LevelIn};
 
 use block::{finest, level_at, window_sum};
-use book::block_at;
+use book::{Opened, block_at};
 use judge::judge_query;
 use model::{Finer, Ground, Refusal};
 use shape::Shape;
@@ -22,7 +22,7 @@ fn error_limit(k: u8, level: u8) -> u64
     if level == 0 {
         return 0;
     }
-    (1u64 << level) * (k as u64 + 1)
+    (1u64 << level) * (u64::from(k) + 1)
 }
 
 // What stands for F of the next finer level, in the half of a parity.
@@ -38,14 +38,15 @@ fn finer_than(block: &[u32], s: Shape, parity: u8, level: u8) -> Finer
 }
 
 // The ground of a window above 0: level and F are those of the half in which the window opens.
-fn opened_ground(block: &[u32], s: Shape, clock: u32, window: u32) -> Ground
-    requires { Whole s block.now × (0 < window) }
-    ensures { result ≡ ground_of s clock window (decode_block s block.now) }
+fn opened_ground(block: &[u32], opened: Opened, window: u32) -> Ground
+    requires { Whole opened.shape block.now × (0 < window) }
+    ensures { result ≡ ground_of opened.shape opened.clock window (decode_block opened.shape block.now) }
 {
-    let start = opening(clock, window);
+    let s = opened.shape;
+    let start = opening(opened.clock, window);
     let parity = parity(interval(s, start));
     let level = finest(block, s, parity, offset(s, start));
-    let sum = window_sum(block, s, clock, window);
+    let sum = window_sum(block, s, opened.clock, window);
     let limit = error_limit(s.k, level);
     let finer = finer_than(block, s, parity, level);
     Ground {
@@ -57,9 +58,9 @@ fn opened_ground(block: &[u32], s: Shape, clock: u32, window: u32) -> Ground
 }
 
 // The ground of a window. Window 0 covers no stamp, so nothing is read.
-fn block_ground(block: &[u32], s: Shape, clock: u32, window: u32) -> Ground
-    requires { Whole s block.now }
-    ensures { result ≡ ground_of s clock window (decode_block s block.now) }
+fn block_ground(block: &[u32], opened: Opened, window: u32) -> Ground
+    requires { Whole opened.shape block.now }
+    ensures { result ≡ ground_of opened.shape opened.clock window (decode_block opened.shape block.now) }
 {
     if window == 0 {
         return Ground {
@@ -69,7 +70,7 @@ fn block_ground(block: &[u32], s: Shape, clock: u32, window: u32) -> Ground
             finer: Finer::WindowZero,
         };
     }
-    opened_ground(block, s, clock, window)
+    opened_ground(block, opened, window)
 }
 
 // Refused as a question is. Only the block of the grade is handed on.
@@ -78,26 +79,15 @@ pub fn ground(book: &[u32], grade: u32, window: u32) -> Result<Ground, Refusal>
 {
     let opened = judge_query(book, grade, window)?;
     let words = block_at(book, opened.shape, grade);
-    let ground = block_ground(words, opened.shape, opened.clock, window);
+    let ground = block_ground(words, opened, window);
     Ok(ground)
 }
 
-// Writes the five values of a ground over these words.
-fn store_values(g: Ground, out: &mut [u64])
-    requires { length out.old ≡ 5 }
-    ensures { out.new ≡ ground_values g }
-{
-    let finer = g.finer;
-    out[0] = g.sum;
-    out[1] = g.level as u64;
-    out[2] = g.limit;
-    out[3] = codes::finer_case(finer);
-    out[4] = codes::finer_first(finer);
-}
-
-// The same over an array of five, which needs no test of its length.
+// Writes the five values of a ground.
 pub fn store(g: Ground, out: &mut [u64; 5])
     ensures { out.new ≡ ground_values g }
 {
-    store_values(g, out)
+    let case = codes::finer_case(g.finer);
+    let first = codes::finer_first(g.finer);
+    *out = [g.sum, u64::from(g.level), g.limit, case, first];
 }

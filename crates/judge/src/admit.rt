@@ -14,10 +14,7 @@ const MAX_VOLUME: u32 = 65535;
 fn is_outside(volume: u32) -> bool
     ensures { result ≡ (eqb volume 0 || ltb 65535 volume) }
 {
-    if volume == 0 {
-        return true;
-    }
-    MAX_VOLUME < volume
+    (volume == 0) | (MAX_VOLUME < volume)
 }
 
 // 11 and 12, by the words of the named block.
@@ -53,8 +50,7 @@ pub fn judge_delivery_in(
     requires { Open book.now opened.shape opened.clock }
     ensures { opened_of result ≡ judgement (first_refusal book.now (Call.Delivery grade stamp volume)) book.now }
 {
-    let grades = opened.shape.g as u32;
-    let known = grade < grades;
+    let known = grade < u32::from(opened.shape.g);
     let outside = is_outside(volume);
     if !known {
         return Err(Refusal::Grade);

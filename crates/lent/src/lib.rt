@@ -10,7 +10,8 @@ ghost use Rattle.lent.specs.Said.{after_of};
 use model::{Answer, Call, Refusal};
 use shape::Shape;
 
-// The answer to a line, none if it is unread, and how many words are lent after it.
+// The answer to a line, none if it is unread, and how many words are lent after it. That stays a number beside the whole buffer, since a later
+// make may be lent more of it.
 #[derive(Clone, Copy)]
 pub struct Answered {
     pub said: Option<Result<Answer, Refusal>>,

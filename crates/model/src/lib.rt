@@ -57,7 +57,8 @@ pub struct Ground {
     pub finer: Finer,
 }
 
-// A record's kind and its call's numbers; the rest is zero.
+// A record's kind and its call's numbers; the rest is zero. The kind stays a word, since a record is read from any words, and 13 refuses what is
+// no kind.
 #[derive(Clone, Copy)]
 pub struct Record {
     pub kind: u32,

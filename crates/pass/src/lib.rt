@@ -47,10 +47,10 @@ fn see_single(t: Seen, b: Slot) -> Seen
         end: b.offset.wrapping_add(1),
         faults: t.faults | (b.width ^ 1),
         reach: t.reach | b.offset,
-        heavy: t.heavy,
         short: t.short + (below(b.offset, t.end) + below(b.weight, 1)),
         low: t.low.wrapping_add(b.weight),
         high: t.high + b.weight / 65536,
+        ..t
     }
 }
 

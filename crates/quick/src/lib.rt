@@ -71,7 +71,8 @@ fn weighs(weight: u64, first: u32, total: u64) -> bool
     (weight <= total) & implied(first == 0, weight == total)
 }
 
-// Whether a level's buckets are sound and weigh what its half's total asks. The quick pass answers if its tests hold. If F is above 0 the
+// Whether a level's buckets are sound and weigh what its half's total asks. Level and count stay two parameters, since `turns::quick_buckets` has
+// them so. The quick pass answers if its tests hold. If F is above 0 the
 // weights must only be at most the total; then none is added if the count times the largest weight that the pass may have seen is at most
 // the total. The quick pass is called in both branches: a function that is called once is put into its caller, and there the compiler no
 // longer finds the rows.

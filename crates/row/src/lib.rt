@@ -35,8 +35,8 @@ pub fn quick_bucket(t: Quick, b: Slot, least: u32, most: u32) -> Quick
             | (b.width & before)
             | (b.offset & before)
             | (mask(extra, most) & before),
-        reach: t.reach,
         extra: t.extra | extra,
+        ..t
     }
 }
 
@@ -47,9 +47,8 @@ fn open_row(t: Quick, offset: u32) -> Quick
 {
     Quick {
         end: offset,
-        faults: t.faults,
         reach: t.reach | offset,
-        extra: t.extra,
+        ..t
     }
 }
 

@@ -36,7 +36,8 @@ struct Span {
 }
 
 // A span for offset x. It is searched from the upper end, in steps that double, because most offsets are near that end.
-// Takes the level and not its slots, since the theorems `past-most` and `past-least` speak of a level's words.
+// It takes the level and not its slots, and searches by hand: the theorems `past-most` and `past-least`, which speak of such steps and of a
+// level's words, may not change.
 fn gallop(level: &[u32], x: u32) -> Span
     requires { EndsRise 0 (decode_level level.now).buckets × (slot_start (get_or level.now 0 0) ≤ length level.now) }
     ensures { Spans x level.now result }

@@ -38,10 +38,7 @@ pub struct Shape {
 fn is_between(low: u32, x: u32, high: u32) -> bool
     ensures { result ≡ between low x high }
 {
-    if x < low {
-        return false;
-    }
-    x <= high
+    (low..=high).contains(&x)
 }
 
 impl Shape {

@@ -9,7 +9,8 @@ ghost use Rattle.text.specs.Text.{numbered, text_of, unread_text, written, store
 use itoa::Buffer;
 use model::{Answer, Refusal};
 
-// Writes a text into the buffer from `at` on. Returns where it ends.
+// Writes a text into the buffer from `at` on. Returns where it ends. No `Display` and no String: the memory is fixed, and the clauses `value` and
+// `out_after` of `answer` say how many bytes are written and that the rest stays.
 fn copy(text: &[u8], out: &mut [u8], at: usize) -> usize
     requires { at + length text.now ≤ length out.old }
     ensures value { result ≡ at + length text.now }
@@ -32,7 +33,7 @@ fn line_of(word: &[u8], x: u64, out: &mut [u8]) -> usize
 }
 
 // Writes the line of an answer to the front of the buffer. Returns its length. If the buffer is shorter than 32 bytes, it writes nothing and
-// returns 0.
+// returns 0, and no None, since its clause `value` has `written`, which is 0 there.
 pub fn answer(a: Result<Answer, Refusal>, out: &mut [u8]) -> usize
     ensures value { result ≡ written (text_of (reply_of a)) out.old }
     ensures out_after { out.new ≡ stored (text_of (reply_of a)) out.old }

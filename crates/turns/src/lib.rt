@@ -27,10 +27,8 @@ fn mark(t: Quick) -> Quick
     ensures { result ≡ mark t }
 {
     Quick {
-        end: t.end,
-        faults: t.faults,
         reach: t.reach | t.end,
-        extra: t.extra,
+        ..t
     }
 }
 

@@ -65,9 +65,5 @@ pub fn slot_from(rest: &[u32], at: usize) -> Slot
     requires { at + slot_len ≤ length rest.now }
     ensures { content result ≡ front (drop at rest.now) }
 {
-    Slot {
-        offset: rest[at],
-        width: rest[at + 1],
-        weight: rest[at + 2],
-    }
+    Slot::from(&[rest[at], rest[at + 1], rest[at + 2]])
 }

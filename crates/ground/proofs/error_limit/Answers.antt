@@ -13,10 +13,10 @@ pub overflow_mul-result : goal.overflow_mul-result
 overflow_mul-result c =
     let a = c.args in
     let s = shl_exact {a = 1} 1 a.level 64 (omega arith) (omega arith) in
-    record { fits = rw s (omega (arith, limit_fits a.k a.level c.requires.0 c.requires.1)) }
+    record { fits = rw (s, c.from.ensures) (omega (arith, limit_fits a.k a.level c.requires.0 c.requires.1)) }
 
 pub returns : goal.returns
 returns c =
     let a = c.args in
     let s = shl_exact {a = 1} 1 a.level 64 (omega arith) (omega arith) in
-    rw (ne_eqb a.level 0 c.if-level-eq0.false, s, one-mul)
+    rw (ne_eqb a.level 0 c.if-level-eq0.false, s, c.from.ensures, one-mul)

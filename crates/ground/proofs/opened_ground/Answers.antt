@@ -7,9 +7,9 @@ use Rattle.ground.proofs.opened_ground.Goals as goal
 use Rattle.ground.proofs.opened_ground.Goals.{After-finest-level}
 
 -- the level found is one of the half
-found : (c : After-finest-level) → c.finest-level.result ≤ c.args.s.last
+found : (c : After-finest-level) → c.finest-level.result ≤ c.args.opened.shape.last
 found c =
-    rw c.finest-level.ensures (index_serves c.args.s c.args.block.now c.requires.0 c.parity-parity.result (omega arith) c.offset.result).0
+    rw c.finest-level.ensures (index_serves c.args.opened.shape c.args.block.now c.requires.0 c.parity-parity.result (omega arith) c.offset.result).0
 
 pub error_limit-limit-requires : goal.error_limit-limit-requires
 error_limit-limit-requires c =
@@ -23,7 +23,7 @@ pub returns : goal.returns
 returns c =
     let a = c.args in
     rw (
-      ← ground-opened a.s a.clock a.window a.block.now (λ e. omega (arith, c.requires.1)),
+      ← ground-opened a.opened.shape a.opened.clock a.window a.block.now (λ e. omega (arith, c.requires.1)),
       c.window_sum-sum.ensures,
       c.error_limit-limit.ensures,
       c.finer_than-finer.ensures,

@@ -4,4 +4,4 @@ use lib.Seq.{get_or-drop}
 use Rattle.words.proofs.slot_from.Goals as goal
 
 pub returns : goal.returns
-returns c = simp (get_or-drop, add-zero)
+returns c = rw c.from.ensures (simp (get_or-drop, add-zero))

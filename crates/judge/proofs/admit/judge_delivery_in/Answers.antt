@@ -22,16 +22,16 @@ told c =
     delivery_judges c.args.book.now c.args.opened.shape c.args.opened.clock c.requires c.args.grade c.args.stamp c.args.volume ∙ rw c.is_outside-outside.ensures
 
 pub returns-then-not-known : goal.returns-then-not-known
-returns-then-not-known c = told_judgement _ _ _ (told (goal.at.returns-then-not-known c).After-is_outside-outside ∙ first_here _ _ (ap not (le-ltb c.args.grade c.args.opened.shape.g c.if-not-known.true)))
+returns-then-not-known c = told_judgement _ _ _ (told (goal.at.returns-then-not-known c).After-is_outside-outside ∙ first_here _ _ (ap not (le-ltb c.args.grade c.args.opened.shape.g (omega (arith, c.from.ensures, c.if-not-known.true)))))
 
 pub returns-then-outside : goal.returns-then-outside
-returns-then-outside c = told_judgement _ _ _ (told (goal.at.returns-then-outside c).After-is_outside-outside ∙ first_later _ _ (ap not (lt-ltb c.args.grade c.args.opened.shape.g c.if-not-known.false)) ∙ first_here _ _ c.if-outside.true)
+returns-then-outside c = told_judgement _ _ _ (told (goal.at.returns-then-outside c).After-is_outside-outside ∙ first_later _ _ (ap not (lt-ltb c.args.grade c.args.opened.shape.g (omega (arith, c.from.ensures, c.if-not-known.false)))) ∙ first_here _ _ c.if-outside.true)
 
 pub returns-then-opened-stamp : goal.returns-then-opened-stamp
 returns-then-opened-stamp c =
     let a = c.args in
     let fair : c.is_outside-outside.result ≡ false = cc in
-    told_judgement _ _ _ (told (goal.at.returns-then-opened-stamp c).After-is_outside-outside ∙ first_later _ _ (ap not (lt-ltb c.args.grade c.args.opened.shape.g c.if-not-known.false)) ∙ first_later _ _ fair ∙ first_here _ _ (lt-ltb a.opened.clock a.stamp c.if-opened-stamp.true))
+    told_judgement _ _ _ (told (goal.at.returns-then-opened-stamp c).After-is_outside-outside ∙ first_later _ _ (ap not (lt-ltb c.args.grade c.args.opened.shape.g (omega (arith, c.from.ensures, c.if-not-known.false)))) ∙ first_later _ _ fair ∙ first_here _ _ (lt-ltb a.opened.clock a.stamp c.if-opened-stamp.true))
 
 pub power-requires : goal.power-requires
 power-requires c =
@@ -45,13 +45,13 @@ pub returns-then-stamp-power : goal.returns-then-stamp-power
 returns-then-stamp-power c =
     let a = c.args in
     let gone : a.stamp + 2 ^ a.opened.shape.k ≤ a.opened.clock = omega (arith, c.power.ensures, c.if-stamp-power.true) in
-    told_judgement _ _ _ (told (goal.at.returns-then-stamp-power c).After-is_outside-outside ∙ first_later _ _ (ap not (lt-ltb c.args.grade c.args.opened.shape.g c.if-not-known.false)) ∙ first_later _ _ c.if-outside.false ∙ first_later _ _ (le-ltb a.opened.clock a.stamp c.if-opened-stamp.false) ∙ first_here _ _ (le-leb (a.stamp + 2 ^ a.opened.shape.k) a.opened.clock gone))
+    told_judgement _ _ _ (told (goal.at.returns-then-stamp-power c).After-is_outside-outside ∙ first_later _ _ (ap not (lt-ltb c.args.grade c.args.opened.shape.g (omega (arith, c.from.ensures, c.if-not-known.false)))) ∙ first_later _ _ c.if-outside.false ∙ first_later _ _ (le-ltb a.opened.clock a.stamp c.if-opened-stamp.false) ∙ first_here _ _ (le-leb (a.stamp + 2 ^ a.opened.shape.k) a.opened.clock gone))
 
 pub judge_room-requires : goal.judge_room-requires
 judge_room-requires c =
     record {
       book = c.requires;
-      inside = c.if-not-known.false;
+      inside = (omega (arith, c.from.ensures, c.if-not-known.false));
       fair = sym c.is_outside-outside.ensures ∙ c.if-outside.false;
       come = c.if-opened-stamp.false;
       early = omega (arith, c.power.ensures, c.if-stamp-power.false);

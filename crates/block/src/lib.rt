@@ -25,7 +25,7 @@ fn capacity(s: Shape) -> u64
     u64::from(power(s.m))
 }
 
-// The words of a level, in the half of a parity.
+// The words of a level, in the half of a parity: shared here, exclusive in `erase` and `fill`. One function is not generic over that.
 #[tactic(auto, using(crate::specs::Steps::level_bounds))]
 pub fn level_at(block: &[u32], s: Shape, parity: u8, i: u8) -> &[u32]
     requires { LevelIn s parity i block.now }

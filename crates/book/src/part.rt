@@ -12,7 +12,7 @@ use shape::Shape;
 // The book, the shape and the grade stay three parameters: `sweep` and `summary` write the same words, so a type that holds them would be needed
 // twice, shared and exclusive.
 
-// The words of a grade's block, as a part of the book.
+// The words of a grade's block, as a part of the book: shared here, exclusive in `sweep` and `summary`. One function is not generic over that.
 #[tactic(auto, using(crate::specs::Part::block_within))]
 pub fn block_at(book: &[u32], s: Shape, grade: u32) -> &[u32]
     requires { InBook s grade book.now }

@@ -69,7 +69,7 @@ fn first_after(i: u8, offset: u32, next: u32) -> u32
 }
 
 // Puts a bucket into slot j of level i. If there is no room the lowest bucket is evicted, which may be the new one itself. Returns the slot
-// after the new one's. The words, n and i stay parameters of their own, since the loop of `insert` keeps the level as variables of its own.
+// after the new one's. The words, n and i stay parameters of their own, since `insert_splitting` keeps them as variables, for a debugger.
 pub fn put_at(level: &mut [u32], n: usize, i: u8, j: usize, b: Slot) -> usize
     requires { Takes n j level.old × (b.offset < 2 ^ 31) × (0 < i → j < get_or level.old 0 0) }
     ensures { Becomes n i j [] (content b ∷ []) level.old level.new result }

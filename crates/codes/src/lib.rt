@@ -2,7 +2,7 @@
 // used by `text`, `replay`, `ground` and `capi`.
 #![tactic(auto)]
 
-ghost use Rattle.std.specs.Prelude.{◌≡◌, [], get_or};
+ghost use Rattle.std.specs.Prelude.{◌≡◌, []};
 ghost use Rattle.shape.specs.Limits.{accepted};
 ghost use Rattle.model.specs.Reply.{number_of, reply_by};
 ghost use Rattle.model.specs.Ground.{finer_values};
@@ -26,24 +26,13 @@ pub fn answer_number<T: Drop>(answer: Result<T, Refusal>) -> u32
     }
 }
 
-// Which case it is, as C is told.
-pub fn finer_case(finer: Finer) -> u64
-    ensures { result ≡ get_or (finer_values finer) 0 0 }
+// What C is told of F of the next finer level: which case it is, and F, or 0 in the other cases.
+pub fn finer_values(finer: Finer) -> [u64; 2]
+    ensures { result ≡ finer_values finer }
 {
     match finer {
-        Finer::WindowZero => 0,
-        Finer::LevelZero => 1,
-        Finer::First(_) => 2,
-    }
-}
-
-// F of the next finer level, 0 in the other cases, as C is told.
-pub fn finer_first(finer: Finer) -> u64
-    ensures { result ≡ get_or (finer_values finer) 1 0 }
-{
-    match finer {
-        Finer::WindowZero => 0,
-        Finer::LevelZero => 0,
-        Finer::First(first) => u64::from(first),
+        Finer::WindowZero => [0, 0],
+        Finer::LevelZero => [1, 0],
+        Finer::First(first) => [2, u64::from(first)],
     }
 }

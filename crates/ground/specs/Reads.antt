@@ -1,6 +1,6 @@
 -- A ground as the code reads it from the words of a block, and as it writes its values. Rests on the laws of the serving level.
-use Rattle.std.specs.Prelude.{List, [], ◌∷◌, ◌≡◌, refl, ℕ, suc, ◌+◌, ◌*◌, ◌%◌, ◌^◌, ◌≤◌, ◌<◌, length, get_or, set}
-use Rattle.std.proofs.Common.{sym, ap, zero-add, mul-le-mul_left, mul-le-mul_right, arith, length-set, pow_mono, ne_eqb}
+use Rattle.std.specs.Prelude.{List, [], ◌∷◌, ◌≡◌, refl, ℕ, suc, ◌+◌, ◌*◌, ◌%◌, ◌^◌, ◌≤◌, ◌<◌, length, get_or}
+use Rattle.std.proofs.Common.{sym, ap, zero-add, mul-le-mul_left, mul-le-mul_right, arith, pow_mono, ne_eqb}
 use Rattle.shape.specs.declared.Shape.{Shape}
 use Rattle.model.specs.declared.Finer.{Finer}
 use Rattle.model.specs.declared.Finer.TheVariants.{WindowZero, LevelZero, First}

@@ -87,7 +87,6 @@ pub fn ground(book: &[u32], grade: u32, window: u32) -> Result<Ground, Refusal>
 pub fn store(g: Ground, out: &mut [u64; 5])
     ensures { out.new ≡ ground_values g }
 {
-    let case = codes::finer_case(g.finer);
-    let first = codes::finer_first(g.finer);
+    let [case, first] = codes::finer_values(g.finer);
     *out = [g.sum, u64::from(g.level), g.limit, case, first];
 }

@@ -40,7 +40,7 @@ pub enum Answer {
     Sum(u64), // A question.
 }
 
-// F of the next finer level, or why it is not told.
+// F of the next finer level, or why it is not told. No Result: window 0 and level 0 are answers, with numbers of their own for C, and no failures.
 #[derive(Clone, Copy)]
 pub enum Finer {
     WindowZero, // The window is 0, so no level was read.

@@ -24,11 +24,11 @@ fn unseen(first: u32) -> Seen
     }
 }
 
-// 1 if x is less than y, else 0: a number, so that no branch is needed.
+// 1 if x is less than y, else 0.
 fn below(x: u32, y: u32) -> u32
     ensures { (result ≡ below x y) × (result ≤ 1) }
 {
-    if x < y { 1 } else { 0 }
+    u32::from(x < y)
 }
 
 // The weight of a bucket wider than 1, else 0.
@@ -105,7 +105,7 @@ fn seen_level(slots: &[[u32; SLOT_LEN]], first: u32, i: u8) -> Seen
     t
 }
 
-// The sum of the weights. Their lower 16 bits add up to less than 2 ^ 32, so the remainder is all of it.
+// The sum of the weights. Their lower 16 bits add up to less than 2 ^ 32, so the remainder is all of it. It is written as the definition has it.
 fn weight_seen(t: Seen) -> u64
     ensures { result ≡ weight_seen t }
 {

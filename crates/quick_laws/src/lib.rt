@@ -15,8 +15,8 @@ pub struct Quick {
     pub extra: u32,
 }
 
-// What the quick pass has collected in four rows of slots at once, each for itself. The rows are no array: the turn that begins and
-// `quick_turn` give each one words of its own, so each would still be named, by a number.
+// What the quick pass has collected in four rows of slots at once, each for itself. The rows are no array: the definitions
+// `quick_turn` and `join_rows` name the four, each with words of its own.
 #[derive(Clone, Copy)]
 pub struct Rows {
     pub one: Quick,

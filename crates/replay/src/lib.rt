@@ -12,7 +12,7 @@ use days::{call_of, day_at, record_at};
 use model::{ANSWER_WORDS, Answer, RECORD_WORDS, Record, Refusal};
 use trace::judge_day;
 
-// The sum of an answered question, else 0.
+// The sum of an answered question, else 0. All cases are named, so that a new one is not overlooked.
 fn answer_sum(answer: Result<Answer, Refusal>) -> u32
     requires { get_or (reply_of answer).values 0 0 < 2 ^ 32 }
     ensures { result ≡ get_or (reply_of answer).values 0 0 }

@@ -9,8 +9,8 @@ ghost use Rattle.quick_laws.specs.Rows.{open_row, quick_row, end_at, seam_at, qu
 use quick_laws::{Quick, Rows};
 use words::{Slot, slot_from};
 
-// All bits if x is more than y, both taken as signed words, as the definition takes them, else none. The machine compares four signed words in one operation, and needs
-// more for unsigned ones.
+// All bits if x is more than y, both taken as signed words, as the definition takes them, else none. The machine compares four signed words in
+// one operation, and needs more for unsigned ones.
 fn mask(x: u32, y: u32) -> u32
     ensures { result ≡ mask x y }
 {

@@ -1,8 +1,9 @@
 // Reading a trace: the pair of a day, the words of a day, its records, and a record as a call (SPECIFICATION 16.1 and 16.2).
 #![tactic(auto)]
 
-ghost use Rattle.std.specs.Prelude.{◌≡◌, ◌+◌, ◌*◌, ◌≤◌, length, take, drop};
-ghost use Rattle.model.specs.Trace.{record_words, record_at, sound_record, call_of, sound_day, pair_start};
+ghost use Rattle.std.specs.Prelude.{◌≡◌, ◌+◌, ◌*◌, ◌≤◌, eqb, length, take, drop};
+ghost use Rattle.model.specs.Trace.{record_words, delivery_kind, query_kind, record_at, sound_record, call_of, sound_day, pair_start};
+ghost use Rattle.model.specs.Merge.{is_clock};
 ghost use Rattle.days.specs.Kind.{kind_of};
 ghost use Rattle.days.specs.Pair.{pair_at};
 
@@ -88,16 +89,33 @@ pub fn call_of(it: Record) -> Call
     }
 }
 
-// Whether a record has one of the kinds, and zero where its call has no number.
+// Whether a record is a clock, and below whether it is a delivery or a question. They are three functions, since only so does the compiler make
+// one test of each. Where the kind is matched on, or is a parameter, it makes three tests, the deliveries' not the first, and finding a day in a
+// trace of deliveries takes half as much time again.
+pub fn is_clock(it: Record) -> bool
+    ensures { result ≡ is_clock it }
+{
+    kind_of(it.kind) == Some(Kind::Clock)
+}
+
+fn is_delivery(it: Record) -> bool
+    ensures { result ≡ eqb it.kind delivery_kind }
+{
+    kind_of(it.kind) == Some(Kind::Delivery)
+}
+
+fn is_query(it: Record) -> bool
+    ensures { result ≡ eqb it.kind query_kind }
+{
+    kind_of(it.kind) == Some(Kind::Query)
+}
+
+// Whether a record has one of the kinds, and zero where its call has no number. Most records are deliveries, so they are told by the first
+// test, and all others by one more.
 fn is_sound_record(it: Record) -> bool
     ensures { result ≡ sound_record it }
 {
-    match kind_of(it.kind) {
-        Some(Kind::Clock) => it.second == 0 && it.third == 0,
-        Some(Kind::Delivery) => true,
-        Some(Kind::Query) => it.third == 0,
-        None => false,
-    }
+    is_delivery(it) || (it.third == 0) & (is_query(it) | is_clock(it) & (it.second == 0))
 }
 
 // Whether the words are whole records, each sound.

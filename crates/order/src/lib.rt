@@ -3,16 +3,10 @@
 
 ghost use Rattle.std.specs.Prelude.{◌≡◌};
 ghost use Rattle.model.specs.Trace.{records_of};
-ghost use Rattle.model.specs.Merge.{is_clock, clock_after, orderly, mergeable};
+ghost use Rattle.model.specs.Merge.{clock_after, orderly, mergeable};
 
-use days::{Kind, kind_of, record_at};
+use days::{is_clock, record_at};
 use model::{MAX_CLOCK, RECORD_WORDS, Record};
-
-fn is_clock(it: Record) -> bool
-    ensures { result ≡ is_clock it }
-{
-    kind_of(it.kind) == Some(Kind::Clock)
-}
 
 // The clock of a record; `before` is that of the record before.
 pub fn clock_after(before: u32, it: Record) -> u32

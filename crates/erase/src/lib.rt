@@ -39,7 +39,8 @@ fn clear_at(block: &mut [u32], s: Shape, parity: u8, i: u8)
     clear_level(&mut block[a..e], s, i);
 }
 
-// Empties the half of a parity: its total and all its levels.
+// Empties the half of a parity: its total and all its levels. Put into its callers, it would take a third more of the stack of a clock.
+#[inline(never)]
 fn clear_half(block: &mut [u32], s: Shape, parity: u8)
     requires { Sized s block.old × (parity ≤ 1) }
     ensures { block.new ≡ emptied s parity block.old }

@@ -90,8 +90,8 @@ pub fn call_of(it: Record) -> Call
 }
 
 // Whether a record is a clock, and below whether it is a delivery or a question. They are three functions, since only so does the compiler make
-// one test of each. Where the kind is matched on, or is a parameter, it makes three tests, the deliveries' not the first, and finding a day in a
-// trace of deliveries takes half as much time again.
+// one test of each. It makes three tests of a match on the kind, the deliveries' not the first, and where one function takes the kind, a day of
+// deliveries is found no sooner: in half as much time again with either.
 pub fn is_clock(it: Record) -> bool
     ensures { result ≡ is_clock it }
 {

@@ -39,8 +39,7 @@ fn clear_at(block: &mut [u32], s: Shape, parity: u8, i: u8)
     clear_level(&mut block[a..e], s, i);
 }
 
-// Empties the half of a parity: its total and all its levels. Put into its callers, it would take a third more of the stack of a clock.
-#[inline(never)]
+// Empties the half of a parity: its total and all its levels.
 fn clear_half(block: &mut [u32], s: Shape, parity: u8)
     requires { Sized s block.old × (parity ≤ 1) }
     ensures { block.new ≡ emptied s parity block.old }
@@ -61,7 +60,9 @@ pub fn clear(block: &mut [u32], s: Shape)
     clear_half(block, s, 1);
 }
 
-// Empties the halves that the clock empties when it goes from one tick to another: SPECIFICATION 5.3.
+// Empties the halves that the clock empties when it goes from one tick to another: SPECIFICATION 5.3. It stays a call, since within its caller it
+// adds 240 bytes to the stack of every clock.
+#[inline(never)]
 pub fn advance(block: &mut [u32], s: Shape, old: u32, new: u32)
     requires { Whole s block.old }
     ensures { block.new ≡ encode_block s (advance s old new (decode_block s block.old)) }

@@ -1,7 +1,7 @@
 -- SPECIFICATION 16.2: the kind that a record's first word names. Assumes nothing.
-use Rattle.std.specs.Prelude.{Bool, true, false, cond, ◌&&◌, ◌||◌, ◌⊎◌, ◌≡◌, ◌≢◌, refl, ℕ, eqb, Option, Some, None, unwrap_or}
+use Rattle.std.specs.Prelude.{Bool, true, false, cond, ◌&&◌, ◌⊎◌, ◌≡◌, ◌≢◌, refl, ℕ, eqb, Option, Some, None, unwrap_or}
 use Rattle.std.specs.Option.{option_eq}
-use Rattle.std.proofs.Common.{inl, inr, sym, ◌∙◌}
+use Rattle.std.proofs.Common.{inl, inr, sym}
 use Rattle.std.proofs.lemmas.Bool.Decides.{eqb_tells}
 use Rattle.days.specs.declared.Kind.{Kind}
 use Rattle.days.specs.declared.Kind.TheVariants.{Clock, Delivery, Query}
@@ -87,25 +87,3 @@ module _ (r : Record) where
       go false true z = refl
       go false false true = refl
       go false false false = refl
-
-  -- the tests of the code, deliveries first
-  pub sound_tested : (eqb r.kind delivery_kind || (eqb r.third 0 && (eqb r.kind query_kind || (eqb r.kind clock_kind && eqb r.second 0)))) ≡ sound_record r
-  unfolding kind_of
-  sound_tested = by_number
-      (λ (word : ℕ). (eqb word delivery_kind || (eqb r.third 0 && (eqb word query_kind || (eqb word clock_kind && eqb r.second 0)))) ≡ sound_as (kind_of word))
-      (turned (eqb r.third 0) (eqb r.second 0)) refl (all (eqb r.third 0)) (λ word x y z. rw (x, y, z) (none (eqb r.third 0))) r.kind
-      ∙ sound_by_kind (kind_of r.kind) refl
-    where
-      turned : (x y : Bool) → (x && y) ≡ (y && x)
-      turned true true = refl
-      turned true false = refl
-      turned false true = refl
-      turned false false = refl
-
-      all : (x : Bool) → (x && true) ≡ x
-      all true = refl
-      all false = refl
-
-      none : (x : Bool) → (x && false) ≡ false
-      none true = refl
-      none false = refl

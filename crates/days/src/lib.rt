@@ -110,12 +110,15 @@ fn is_query(it: Record) -> bool
     kind_of(it.kind) == Some(Kind::Query)
 }
 
-// Whether a record has one of the kinds, and zero where its call has no number. Most records are deliveries, so they are told by the first
-// test, and all others by one more.
+// Whether a record has one of the kinds, and zero where its call has no number. One test for all that is no delivery was tried: it is faster where
+// kinds stand in any order, but a day of clocks alone took half as much time again.
 fn is_sound_record(it: Record) -> bool
     ensures { result ≡ sound_record it }
 {
-    is_delivery(it) || (it.third == 0) & (is_query(it) | is_clock(it) & (it.second == 0))
+    if is_clock(it) {
+        return (it.second == 0) & (it.third == 0);
+    }
+    is_delivery(it) || is_query(it) & (it.third == 0)
 }
 
 // Whether the words are whole records, each sound.

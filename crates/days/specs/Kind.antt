@@ -21,11 +21,12 @@ by_kind c d q Clock = c
 by_kind c d q Delivery = d
 by_kind c d q Query = q
 
--- a fact of every word, by the kind that it names
+-- whether a word is a kind's number, as a test and as an equation
 abbrev Tells : ℕ → ℕ → Type 0
 Tells word kind = ((eqb word kind ≡ true) × (word ≡ kind)) ⊎ ((eqb word kind ≡ false) × (word ≢ kind))
 
-pub by_number : (P : ℕ → Type 0) → P clock_kind → P delivery_kind → P query_kind
+-- a fact of every word, by the kind that it names
+by_number : (P : ℕ → Type 0) → P clock_kind → P delivery_kind → P query_kind
     → ((word : ℕ) → eqb word clock_kind ≡ false → eqb word delivery_kind ≡ false → eqb word query_kind ≡ false → P word)
     → (word : ℕ) → P word
 by_number P c d q other word = first (eqb_tells word clock_kind)
